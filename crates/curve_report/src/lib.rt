@@ -1,0 +1,3 @@
+// What is printed of a strip's curves.
+mod lines;
+pub mod report;

@@ -1,0 +1,4 @@
+pub mod Causes
+pub mod Records
+pub mod Reading
+pub mod Spelling

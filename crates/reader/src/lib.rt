@@ -1,0 +1,8 @@
+// Strips: bytes that hold due rows and then calls on a route.
+pub mod faults;
+pub mod input;
+mod records;
+pub mod rows;
+pub mod taken;
+#[cfg(test)]
+mod tests;
