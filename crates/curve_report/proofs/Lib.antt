@@ -1,1 +1,3 @@
 mod Open
+mod Once
+mod Front

@@ -16,7 +16,7 @@ use Rattle.source.specs.Meaning.{spanOf}
 use Rattle.source.specs.Due.{dueMeaning}
 use Rattle.source.specs.Cheapest.{Cheapest}
 use Rattle.reader.specs.declared.faults.Fault.{Fault}
-use Rattle.reader.specs.declared.taken.RowsRead.{RowsRead}
+use Rattle.reader.specs.declared.rows.RowsRead.{RowsRead}
 use Rattle.reader.specs.Causes.{causeNumber}
 use Rattle.reader.specs.Reading.{rowsAnswer}
 use Rattle.reader.specs.Spelling.{Holds}
@@ -75,3 +75,8 @@ PrintedBy strip (Err fault) text = text ≡ faultLine fault
 -- what is printed of a strip, whose rows are read into a table with room for as many as a strip may have
 abbrev pub Printed : List ℕ → List ℕ → Type 0
 Printed strip text = PrintedBy strip (rowsAnswer strip 64) text
+
+-- a text that is what is printed of a strip, and the only one
+pub record PrintsOnly (strip text : List ℕ) : Type 0 where
+  pub printed : Printed strip text
+  pub only : (other : List ℕ) → Printed strip other → other ≡ text

@@ -8,7 +8,7 @@ ghost use Rattle.std.specs.Options.{isSome};
 ghost use Rattle.std.specs.Vec.{made};
 ghost use Rattle.source.specs.Meaning.{spanOf};
 ghost use Rattle.source.specs.Due.{dueMeaning};
-ghost use Rattle.curve_report.specs.Lines.{Grown, CurveLines, EachOpen, RowsText, Printed};
+ghost use Rattle.curve_report.specs.Lines.{Grown, CurveLines, EachOpen, RowsText, PrintsOnly};
 use crate::lines::curve_line;
 use crate::lines::fault_line;
 use crate::lines::rows_line;
@@ -63,7 +63,7 @@ fn rows_text(heap: Global, rows: &[DueRow]) -> Result<String, AllocError>
 
 // What is printed of a strip: a line for each of its curves and how many there are, or its fault.
 pub fn curves_text(heap: Global, strip: &[u8]) -> Result<String, AllocError>
-    ensures { λ r. ⌜ made r (λ s. Printed (now (strip .entry)) (string-bytes s)) ⌝ }
+    ensures { λ r. ⌜ made r (λ s. PrintsOnly (now (strip .entry)) (string-bytes s)) ⌝ }
 {
     let mut table = [BLANK; 64];
     match read_rows(strip, &mut table) {

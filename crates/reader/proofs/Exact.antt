@@ -3,7 +3,7 @@
 use mathlib.Core.Path.{_≡_, refl, sym, ap, _∙_, subst}
 use mathlib.Core.List.{List, [], _∷_, _++_, append-assoc}
 use mathlib.Core.Bool.{Bool, true, false, cond, _||_}
-use mathlib.Core.Logic.{_⊎_, inl, inr}
+use mathlib.Core.Logic.{inl, inr}
 use Prim.Native.Nat.{ℕ, zero, suc, _+_, _<_, _≤_}
 use native.Mathlib.Nat.{add-zero, zero-add}
 use native.Mathlib.Omega.{arith}
@@ -14,15 +14,14 @@ use Rattle.std.proofs.shelf.Tests.{cond-false, ltb-false, eqb-false, le-ltb, ne
 use Rattle.std.specs.declared.result.Result.{Result}
 use Rattle.std.specs.declared.result.Result.the-variants.{Ok, Err}
 use Rattle.source.specs.declared.due.DueRow.{DueRow}
-use Rattle.source.specs.Due.{rowLawful}
 use Rattle.reader.specs.declared.faults.Cause.{Cause}
 use Rattle.reader.specs.declared.faults.Cause.the-variants.{NoRoom, CutOff, TooLarge}
 use Rattle.reader.specs.declared.faults.Fault.{Fault}
-use Rattle.reader.specs.declared.taken.RowsRead.{RowsRead}
+use Rattle.reader.specs.declared.rows.RowsRead.{RowsRead}
 use Rattle.reader.specs.Records.{recordAt}
 use Rattle.reader.specs.Causes.{atStart}
 use Rattle.reader.specs.Reading.{rowCount, rowsFrom, endFrom, overFront}
-use Rattle.reader.specs.Spelling.{Spelled, Rows, Holds, Stops, ReadsExactly}
+use Rattle.reader.specs.Spelling.{Rows, Holds, Stops, ReadsExactly}
 use Rattle.reader.proofs.Tables.{pastBy, rowsBy, endBy}
 use Rattle.reader.proofs.Spelling.{passes, Taken, record-taken, record-found}
 

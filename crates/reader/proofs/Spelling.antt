@@ -2,20 +2,19 @@
 use mathlib.Core.Path.{_≡_, refl, sym, ap, _∙_, subst}
 use mathlib.Core.List.{List, [], _∷_, _++_, append-assoc}
 use mathlib.Core.Bool.{Bool, true, false, cond}
-use Prim.Native.Nat.{ℕ, zero, suc, _+_, _-_, _*_, _/_, _<_, _≤_}
+use Prim.Native.Nat.{ℕ, suc, _+_, _-_, _/_, _<_, _≤_}
 use native.Mathlib.Nat.{add-zero}
 use native.Mathlib.Omega.{arith}
 use lib.Dec.{leb, ltb, eqb}
 use lib.ListN.{length, drop, getD, length-append, length-drop}
-use Rattle.std.proofs.shelf.Lists.{drop-more, drop-drop, getD-drop}
+use Rattle.std.proofs.shelf.Lists.{drop-more}
 use Rattle.std.proofs.shelf.Tests.{cond-true, cond-false, ltb-false, leb-false, eqb-true, lt-leb, le-ltb, eq-eqb}
 use Rattle.std.specs.declared.result.Result.{Result}
 use Rattle.std.specs.declared.result.Result.the-variants.{Ok, Err}
 use Rattle.source.specs.declared.due.DueRow.{DueRow}
 use Rattle.source.specs.Due.{rowLawful}
-use Rattle.reader.specs.declared.faults.Cause.{Cause}
 use Rattle.reader.specs.declared.faults.Cause.the-variants.{CutOff, RowMap, Unlawful}
-use Rattle.reader.specs.Records.{wordAt, stands, fieldWidth, fieldPlace, fieldOr, rowAt, nextRecord, rowOr, recordAt}
+use Rattle.reader.specs.Records.{wordAt, stands, fieldPlace, rowAt, nextRecord, rowOr, recordAt}
 use Rattle.reader.specs.Spelling.{Field, Spelled}
 
 -- a field that is not cut off is spelled by the bytes at its place

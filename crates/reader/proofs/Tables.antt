@@ -1,9 +1,8 @@
 -- A table while rows are put into it one by one, and one step of reading.
-use mathlib.Core.Path.{_≡_, refl, sym, ap, _∙_}
+use mathlib.Core.Path.{_≡_, sym, ap, _∙_}
 use mathlib.Core.List.{List, [], _∷_, _++_, append-assoc}
 use Prim.Native.Nat.{ℕ, suc, _+_, _-_, _<_}
 use native.Mathlib.Nat.{zero-add, add-zero}
-use native.Mathlib.Numerals.{add-one}
 use native.Mathlib.Omega.{arith}
 use lib.ListN.{length, set, take, drop, take-append-drop}
 use Rattle.std.proofs.shelf.Lists.{take-more-set, drop-set-lt}
@@ -12,7 +11,7 @@ use Rattle.std.specs.declared.result.Result.the-variants.{Ok, Err}
 use Rattle.source.specs.declared.due.DueRow.{DueRow}
 use Rattle.reader.specs.declared.faults.Cause.{Cause}
 use Rattle.reader.specs.declared.faults.Fault.{Fault}
-use Rattle.reader.specs.declared.taken.RowsRead.{RowsRead}
+use Rattle.reader.specs.declared.rows.RowsRead.{RowsRead}
 use Rattle.reader.specs.Records.{recordAt}
 use Rattle.reader.specs.Reading.{pastRow, withRow, rowsFrom, endFrom, overFront}
 

@@ -1,16 +1,15 @@
 -- What reading a strip's rows answers, and which rows it puts into the table.
 use mathlib.Core.List.{List, [], _∷_, _++_}
-use mathlib.Core.Bool.{Bool, true, false, cond, _||_}
+use mathlib.Core.Bool.{cond, _||_}
 use Prim.Native.Nat.{ℕ, zero, suc, _+_}
 use lib.Dec.{ltb, eqb}
 use lib.ListN.{length, getD, set, drop}
 use Rattle.std.specs.declared.result.Result.{Result}
 use Rattle.std.specs.declared.result.Result.the-variants.{Ok, Err}
 use Rattle.source.specs.declared.due.DueRow.{DueRow}
-use Rattle.reader.specs.declared.faults.Cause.{Cause}
 use Rattle.reader.specs.declared.faults.Cause.the-variants.{NoRoom, CutOff, TooLarge}
 use Rattle.reader.specs.declared.faults.Fault.{Fault}
-use Rattle.reader.specs.declared.taken.RowsRead.{RowsRead}
+use Rattle.reader.specs.declared.rows.RowsRead.{RowsRead}
 use Rattle.reader.specs.Causes.{atStart}
 use Rattle.reader.specs.Records.{recordAt}
 

@@ -11,7 +11,7 @@ use Rattle.std.specs.declared.result.Result.the-variants.{Ok, Err}
 use Rattle.source.specs.declared.due.DueRow.{DueRow}
 use Rattle.source.specs.Due.{rowLawful}
 use Rattle.reader.specs.declared.faults.Fault.{Fault}
-use Rattle.reader.specs.declared.taken.RowsRead.{RowsRead}
+use Rattle.reader.specs.declared.rows.RowsRead.{RowsRead}
 use Rattle.reader.specs.Causes.{atStart}
 use Rattle.reader.specs.Records.{stands}
 use Rattle.reader.specs.Reading.{overFront}

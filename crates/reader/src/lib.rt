@@ -3,6 +3,5 @@ pub mod faults;
 pub mod input;
 mod records;
 pub mod rows;
-pub mod taken;
 #[cfg(test)]
 mod tests;

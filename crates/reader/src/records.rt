@@ -1,7 +1,7 @@
 ghost use mathlib.Core.Path.{_≡_};
-ghost use Prim.Native.Nat.{_+_, _*_, _≤_, _<_};
-ghost use lib.ListN.{length, getD};
-ghost use Rattle.reader.specs.Records.{wordAt, stands, fieldWidth, fieldPlace, fieldOr, rowAt, nextRecord, rowOr, recordAt};
+ghost use Prim.Native.Nat.{_+_, _≤_, _<_};
+ghost use lib.ListN.{length};
+ghost use Rattle.reader.specs.Records.{wordAt, stands, fieldWidth, fieldOr, rowAt, nextRecord, rowOr, recordAt};
 use crate::faults::Cause;
 use source::due::DueRow;
 

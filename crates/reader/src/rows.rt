@@ -1,5 +1,5 @@
 ghost use mathlib.Core.Path.{_≡_};
-ghost use Prim.Native.Nat.{_+_, _≤_, _<_};
+ghost use Prim.Native.Nat.{_≤_, _<_};
 ghost use lib.ListN.{length};
 ghost use Rattle.std.specs.declared.result.Result.the-variants.{Ok, Err};
 ghost use Rattle.reader.specs.Reading.{rowCount, pastRow, withRow, rowsFrom, endFrom, rowsAnswer, rowsOf, overFront};
@@ -7,12 +7,18 @@ ghost use Rattle.reader.specs.Spelling.{ReadsExactly};
 use crate::faults::Cause;
 use crate::faults::Fault;
 use crate::records::read_row;
-use crate::taken::RowsRead;
 use source::due::DueRow;
 
 const LONGEST: usize = 4096;
 
 const MOST_ROWS: u8 = 64;
+
+// How many rows a strip has, and the byte, counted from 0, where its calls begin.
+#[derive(Clone, Copy)]
+pub struct RowsRead {
+    pub rows: usize,
+    pub calls: usize,
+}
 
 // How many rows the strip has, if it and a table with so much room may hold them.
 fn row_count(strip: &[u8], room: usize) -> Result<usize, Fault>

@@ -1,8 +1,8 @@
 -- The curve of a lawful head: convex, and nowhere above the peak. Assumes nothing.
-use mathlib.Core.Path.{_≡_, refl, ap, sym, subst, _∙_}
+use mathlib.Core.Path.{_≡_, ap, sym, subst, _∙_}
 use mathlib.Core.List.{List, [], _∷_}
-use mathlib.Core.Bool.{Bool, true, false, cond}
-use Prim.Native.Nat.{ℕ, zero, suc, _+_, _-_, _*_, _≤_, _<_}
+use mathlib.Core.Bool.{true, cond}
+use Prim.Native.Nat.{ℕ, zero, suc, _+_, _-_, _*_, _≤_}
 use native.Mathlib.Omega.{arith}
 use lib.Dec.{leb}
 use lib.IntN.{ℤ, pos, _+ℤ_, natAbs}
@@ -12,7 +12,9 @@ use Rattle.std.proofs.shelf.Tests.{and-parts, le-leb, le-ltb, eqb-true, cond-tr
 use Rattle.cost.specs.Amounts.{whole}
 use Rattle.source.specs.Meaning.{Convex, Sound, Lawful}
 use Rattle.source.specs.Bends.{stepAfter, stepAt, costAfter, costAt, ownBends, bendPenalty}
-use Rattle.source.specs.Heads.{LawfulHead, eachFits, eachFollows, orderly, headLawful, BendConvex, bendCurve, bendMeaning}
+use Rattle.source.specs.Heads.{LawfulHead}
+use Rattle.source.specs.HeadTest.{eachFits, eachFollows, orderly, headLawful}
+use Rattle.source.specs.BendBook.{BendConvex, bendCurve, bendMeaning}
 use Rattle.source.specs.declared.bend.Bend.{Bend}
 use Rattle.source.specs.declared.bend.BendHead.{BendHead}
 use Rattle.source.proofs.Entries.{book-lawful}

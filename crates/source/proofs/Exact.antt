@@ -1,20 +1,21 @@
 -- The test of a head against the conditions on it. Assumes nothing.
 use mathlib.Core.Path.{_≡_, refl, ap, sym, subst, _∙_}
 use mathlib.Core.List.{List, [], _∷_}
-use mathlib.Core.Bool.{Bool, true, false, _&&_}
+use mathlib.Core.Bool.{true, _&&_}
 use mathlib.Core.Logic.{⊎-elim}
 use Prim.Native.Nat.{ℕ, zero, suc, _+_, _-_, _≤_, _<_}
 use native.Mathlib.Omega.{arith}
 use native.Mathlib.Numerals.{add-one}
-use lib.Dec.{T, leb, ltb, eqb}
+use lib.Dec.{leb}
 use lib.IntN.{ℤ, pos, negsuc}
-use lib.Signed.{leZ, _≤ℤ_, leZ-yes}
-use lib.ListN.{length, take, drop, getD, length-take, length-drop}
+use lib.Signed.{leZ, _≤ℤ_}
+use lib.ListN.{length, drop, length-take, length-drop}
 use lib.Seq.{getD-take, getD-drop}
 use Rattle.std.proofs.shelf.Signed.{ints, clamps}
-use Rattle.std.proofs.shelf.Tests.{and-parts, and-from, leb-true, le-leb, ltb-true, lt-ltb, eqb-true, eq-eqb, cases-lt, cases-bool}
-use Rattle.source.specs.Bends.{costAfter, costAt, lowestAfter, ownBends}
-use Rattle.source.specs.Heads.{bendAt, ownBend, LawfulHead, headLimits, bendFits, eachFits, follows, eachFollows, orderly, ownLawful, headLawful, TestExact}
+use Rattle.std.proofs.shelf.Tests.{and-parts, and-from, leb-true, le-leb, ltb-true, lt-ltb, eqb-true, eq-eqb, cases-lt}
+use Rattle.source.specs.Bends.{costAfter, lowestAfter, ownBends}
+use Rattle.source.specs.Heads.{bendAt, ownBend, LawfulHead}
+use Rattle.source.specs.HeadTest.{headLimits, bendFits, eachFits, follows, eachFollows, orderly, ownLawful, headLawful, TestExact}
 use Rattle.source.specs.declared.bend.Bend.{Bend}
 use Rattle.source.specs.declared.bend.BendHead.{BendHead}
 

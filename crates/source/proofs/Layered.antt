@@ -1,18 +1,16 @@
 -- What the layers keep. Assumes nothing.
 use mathlib.Core.Path.{_≡_, refl, ap, sym, _∙_, subst}
 use mathlib.Core.List.{List}
-use mathlib.Core.Logic.{_⊎_, inl, inr, ⊎-elim}
-use mathlib.Core.Bool.{Bool, true, false, cond, _&&_}
-use Prim.Native.Nat.{ℕ, _+_, _-_, _*_, _^_, _≤_, _<_, min, max}
+use mathlib.Core.Bool.{Bool, true, false, cond}
+use Prim.Native.Nat.{ℕ, _+_, _*_, _^_, _≤_, min, max}
 use native.Mathlib.Omega.{arith}
 use native.Mathlib.Nat.{mul-le-mul}
 use lib.Dec.{leb, ltb}
-use lib.ListN.{length, getD}
-use borrow.Author.Needs.{needs}
+use lib.ListN.{getD}
 use Rattle.std.specs.declared.option.Option.{Option}
 use Rattle.std.specs.declared.option.Option.the-variants.{Some, None}
 use Rattle.std.specs.Options.{mapped}
-use Rattle.std.proofs.shelf.Tests.{and-parts, leb-true, cases-bool, le-leb}
+use Rattle.std.proofs.shelf.Tests.{and-parts, leb-true}
 use Rattle.cost.specs.Algebra.{Algebra, fold}
 use Rattle.cost.specs.Pairs.{paired, lex-none}
 use Rattle.cost.proofs.Laws.{fold-plus, fold-most, size-fold}

@@ -10,7 +10,8 @@ use lib.ListN.{length, take, drop, length-drop}
 use lib.Seq.{take-all}
 use Rattle.std.proofs.shelf.Lists.{at-drop-more, at-drop-all, drop-all}
 use Rattle.std.proofs.shelf.Tests.{and-left, cases-lt}
-use Rattle.source.specs.Heads.{bendAt, bendFits, eachFits, follows, eachFollows, orderly}
+use Rattle.source.specs.Heads.{bendAt}
+use Rattle.source.specs.HeadTest.{bendFits, eachFits, follows, eachFollows, orderly}
 use Rattle.source.specs.declared.bend.Bend.{Bend}
 
 and-true : (x y : Bool) → true ≡ x → (x && y) ≡ y

@@ -1,16 +1,15 @@
 -- What a row of the due book keeps. Assumes nothing.
-use mathlib.Core.Path.{_≡_, refl, ap, sym, _∙_, subst}
+use mathlib.Core.Path.{_≡_, ap}
 use mathlib.Core.List.{List}
-use mathlib.Core.Logic.{_⊎_, inl, inr, ⊎-elim}
-use mathlib.Core.Bool.{Bool, true, false, cond, _&&_}
-use Prim.Native.Nat.{ℕ, _+_, _-_, _*_, _^_, _≤_, _<_}
+use mathlib.Core.Logic.{⊎-elim}
+use mathlib.Core.Bool.{true, _&&_}
+use Prim.Native.Nat.{ℕ, _+_, _-_, _*_, _≤_, _<_}
 use native.Mathlib.Omega.{arith}
 use native.Mathlib.Nat.{mul-add, mul-le-mul, mul-le-mul-left}
 use lib.Dec.{leb, ltb}
-use Rattle.std.proofs.shelf.Tests.{cases-lt, and-parts, leb-true, ltb-true, lt-ltb, le-ltb, cond-true, cond-false}
-use Rattle.cost.specs.Algebra.{Algebra}
+use Rattle.std.proofs.shelf.Tests.{cases-lt, and-parts, leb-true, lt-ltb, le-ltb, cond-true, cond-false}
 use Rattle.cost.specs.Amounts.{whole}
-use Rattle.source.specs.Meaning.{Curve, Meaning, Convex, Sound, Lawful}
+use Rattle.source.specs.Meaning.{Convex, Sound, Lawful}
 use Rattle.source.specs.Due.{rowLawful, duePenalty, dueCurve, dueMeaning, DueConvex}
 use Rattle.source.proofs.Entries.{book-lawful}
 use Rattle.source.specs.declared.due.DueRow.{DueRow}

@@ -11,7 +11,7 @@ use Rattle.std.proofs.shelf.Tests.{cases-bool, cases-lt, and-parts, leb-true, l
 use Rattle.cost.specs.Algebra.{Algebra, Less, Most}
 use Rattle.cost.proofs.Laws.{not-back}
 use Rattle.source.specs.Meaning.{Curve, Sound, spanOf, priceOf, holds}
-use Rattle.source.specs.Cheapest.{Cheapest, CheapestOf, better}
+use Rattle.source.specs.Cheapest.{CheapestOf, better}
 use Rattle.source.proofs.Entries.{none-some, some-same, cond-some}
 
 module _ {E : Type 0} (K : Algebra E) (o : Option (Curve E)) where

@@ -1,9 +1,8 @@
 -- Steps that never fall over bends, never fall over minutes. Assumes nothing.
-use mathlib.Core.Path.{_≡_, refl, ap, sym, subst, _∙_}
+use mathlib.Core.Path.{_≡_, refl, ap, sym, _∙_}
 use mathlib.Core.List.{List, [], _∷_, _++_}
 use mathlib.Core.Bool.{Bool, true, false, cond}
-use mathlib.Core.Logic.{⊎-elim}
-use Prim.Native.Nat.{ℕ, zero, suc, _+_, _-_, _≤_, _<_}
+use Prim.Native.Nat.{ℕ, suc, _+_, _-_, _≤_, _<_}
 use native.Mathlib.Omega.{arith}
 use native.Mathlib.Numerals.{add-one}
 use lib.Dec.{leb}
@@ -13,7 +12,7 @@ use Rattle.std.specs.Numbers.{minZ}
 use lib.ListN.{length, take, getD}
 use Rattle.std.proofs.shelf.Signed.{ints}
 use Rattle.std.proofs.shelf.Lists.{take-more}
-use Rattle.std.proofs.shelf.Tests.{cases-bool, leb-true, le-leb}
+use Rattle.std.proofs.shelf.Tests.{leb-true, le-leb}
 use Rattle.source.specs.Bends.{stepAfter, stepAt, costAfter, lowestAfter}
 use Rattle.source.specs.declared.bend.Bend.{Bend}
 

@@ -3,5 +3,7 @@ pub mod Books
 pub mod Due
 pub mod Bends
 pub mod Heads
+pub mod HeadTest
+pub mod BendBook
 pub mod Layers
 pub mod Cheapest

@@ -1,5 +1,4 @@
 ghost use mathlib.Core.Path.{_≡_};
-ghost use Prim.Native.Nat.{_*_, _^_, _≤_};
 ghost use Rattle.std.specs.Options.{mapped};
 ghost use Rattle.source.specs.Meaning.{Lawful, priceOf};
 ghost use Rattle.source.specs.Layers.{weightOf, bears, weighted};

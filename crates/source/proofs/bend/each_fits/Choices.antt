@@ -1,6 +1,6 @@
 use mathlib.Core.Path.{_≡_}
 use lib.ListN.{drop}
-use Rattle.source.specs.Heads.{eachFits}
+use Rattle.source.specs.HeadTest.{eachFits}
 use Rattle.source.proofs.bend.each_fits.Given as given
 
 abbrev pub Inv-loop-bend : given.InvT-loop-bend

@@ -1,6 +1,6 @@
 use mathlib.Core.Path.{_≡_}
 use lib.ListN.{drop}
-use Rattle.source.specs.Heads.{eachFollows}
+use Rattle.source.specs.HeadTest.{eachFollows}
 use Rattle.source.proofs.bend.each_follows.Given as given
 
 abbrev pub Inv-loop-bend : given.InvT-loop-bend

@@ -4,7 +4,8 @@ use native.Mathlib.Omega.{arith}
 use lib.ListN.{length}
 use Rattle.std.proofs.shelf.Lists.{take-rest}
 use Rattle.std.proofs.shelf.Tests.{eq-eqb, ltb-false}
-use Rattle.source.specs.Heads.{bendAt, eachFollows}
+use Rattle.source.specs.Heads.{bendAt}
+use Rattle.source.specs.HeadTest.{eachFollows}
 use Rattle.source.proofs.Looks.{orderly-from}
 use Rattle.source.proofs.bend.is_orderly.Needs as need
 

@@ -1,6 +1,5 @@
 use mathlib.Core.Path.{_≡_}
-use Prim.Native.Nat.{_≤_}
-use lib.ListN.{length, take}
+use lib.ListN.{take}
 use Rattle.source.specs.Bends.{stepAt}
 use Rattle.source.proofs.bend.step_at.Given as given
 

@@ -1,9 +1,9 @@
-use mathlib.Core.Path.{_≡_, ap, sym, subst, _∙_}
+use mathlib.Core.Path.{sym, subst}
 use Prim.Native.Nat.{ℕ, _+_, _<_}
 use native.Mathlib.Omega.{arith}
 use Rattle.std.specs.Options.{mapped}
 use Rattle.std.specs.declared.option.Option.{Option}
-use Rattle.source.specs.Cheapest.{exactly, better}
+use Rattle.source.specs.Cheapest.{exactly}
 use Rattle.source.proofs.Scan.{Found, found-none, found-more, found-all}
 use Rattle.source.proofs.cheapest.scan.Needs as need
 

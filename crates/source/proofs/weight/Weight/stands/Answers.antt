@@ -1,6 +1,4 @@
-use mathlib.Core.Path.{_≡_, ap}
-use Prim.Native.Nat.{ℕ}
-use borrow.Author.Needs.{needs}
+use mathlib.Core.Path.{ap}
 use Rattle.source.specs.Layers.{bears}
 use Rattle.source.proofs.Layered.{weighted-lawful}
 use Rattle.source.proofs.weight.Weight.stands.Needs as need

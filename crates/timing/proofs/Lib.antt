@@ -1,0 +1,17 @@
+pub mod Costs
+pub mod Curves
+pub mod Back
+pub mod Bests
+pub mod Forward
+pub mod Block
+pub mod Theorems
+pub mod Neighbours
+pub mod Steps
+pub mod Firsts
+pub mod Searches
+pub mod Arrivals
+pub mod Timings
+pub mod Marking
+pub mod Blocks
+pub mod Refreshing
+pub mod Asking

@@ -1,0 +1,15 @@
+pub mod Visits
+pub mod Convex
+pub mod Timetables
+pub mod Best
+pub mod Marks
+pub mod Reach
+pub mod Minutes
+pub mod Sound
+pub mod Back
+pub mod Moving
+pub mod Halving
+pub mod Statements
+pub mod Charges
+pub mod Ready
+pub mod Narrowing
