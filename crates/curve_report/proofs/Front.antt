@@ -11,8 +11,9 @@ use Rattle.source.specs.declared.due.DueRow.{DueRow}
 use Rattle.reader.specs.declared.faults.Fault.{Fault}
 use Rattle.reader.specs.declared.rows.RowsRead.{RowsRead}
 use Rattle.reader.specs.Reading.{overFront, rowsAnswer}
-use Rattle.reader.specs.Spelling.{Holds, ReadsExactly}
-use Rattle.curve_report.specs.Lines.{EachOpen, RowsText, PrintedBy, PrintsOnly}
+use Rattle.reader.specs.Exactly.{Holds, ReadsExactly}
+use Rattle.curve_report.specs.Lines.{EachOpen, RowsText}
+use Rattle.curve_report.specs.Printed.{PrintedBy, PrintsOnly}
 use Rattle.curve_report.proofs.Open.{each-open}
 use Rattle.curve_report.proofs.Once.{same-text}
 

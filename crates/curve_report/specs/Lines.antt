@@ -1,4 +1,4 @@
--- What is printed of a strip: a line for each of its curves and their number, or its fault in reading rows.
+-- The lines that are printed of a strip: one for each of its curves and one for their number, or one for its fault.
 use mathlib.Core.Path.{_≡_}
 use mathlib.Core.List.{List, [], _∷_, _++_}
 use mathlib.Core.Bool.{true}
@@ -6,8 +6,6 @@ use Prim.Native.Nat.{ℕ, zero, suc, _<_}
 use lib.Chars.{codes}
 use lib.ListN.{length}
 use Rattle.std.specs.declared.option.Option.the-variants.{Some}
-use Rattle.std.specs.declared.result.Result.{Result}
-use Rattle.std.specs.declared.result.Result.the-variants.{Ok, Err}
 use Rattle.std.specs.Options.{isSome}
 use Rattle.std.specs.Written.{decimal}
 use Rattle.cost.specs.Amounts.{whole}
@@ -16,10 +14,7 @@ use Rattle.source.specs.Meaning.{spanOf}
 use Rattle.source.specs.Due.{dueMeaning}
 use Rattle.source.specs.Cheapest.{Cheapest}
 use Rattle.reader.specs.declared.faults.Fault.{Fault}
-use Rattle.reader.specs.declared.rows.RowsRead.{RowsRead}
 use Rattle.reader.specs.Causes.{causeNumber}
-use Rattle.reader.specs.Reading.{rowsAnswer}
-use Rattle.reader.specs.Spelling.{Holds}
 
 -- the byte that ends a line
 abbrev pub ended : List ℕ
@@ -66,17 +61,3 @@ faultText number byte = codes "fault " ++ (decimal number ++ (codes " byte " ++ 
 
 abbrev pub faultLine : Fault → List ℕ
 faultLine fault = faultText (causeNumber (fault .cause)) (fault .byte)
-
--- by what reading the rows answers: the lines of the rows that the strip holds, or its fault
-abbrev pub PrintedBy : List ℕ → Result RowsRead Fault → List ℕ → Type 0
-PrintedBy strip (Ok got) text = (rows : List DueRow) × Holds strip rows (got .calls) × RowsText rows (length rows) text
-PrintedBy strip (Err fault) text = text ≡ faultLine fault
-
--- what is printed of a strip, whose rows are read into a table with room for as many as a strip may have
-abbrev pub Printed : List ℕ → List ℕ → Type 0
-Printed strip text = PrintedBy strip (rowsAnswer strip 64) text
-
--- a text that is what is printed of a strip, and the only one
-pub record PrintsOnly (strip text : List ℕ) : Type 0 where
-  pub printed : Printed strip text
-  pub only : (other : List ℕ) → Printed strip other → other ≡ text

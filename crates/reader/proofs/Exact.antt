@@ -21,7 +21,8 @@ use Rattle.reader.specs.declared.rows.RowsRead.{RowsRead}
 use Rattle.reader.specs.Records.{recordAt}
 use Rattle.reader.specs.Causes.{atStart}
 use Rattle.reader.specs.Reading.{rowCount, rowsFrom, endFrom, overFront}
-use Rattle.reader.specs.Spelling.{Rows, Holds, Stops, ReadsExactly}
+use Rattle.reader.specs.Spelling.{Rows}
+use Rattle.reader.specs.Exactly.{Holds, Stops, ReadsExactly}
 use Rattle.reader.proofs.Tables.{pastBy, rowsBy, endBy}
 use Rattle.reader.proofs.Spelling.{passes, Taken, record-taken, record-found}
 

@@ -2,3 +2,4 @@ pub mod Causes
 pub mod Records
 pub mod Reading
 pub mod Spelling
+pub mod Exactly

@@ -3,7 +3,7 @@ ghost use Prim.Native.Nat.{_≤_, _<_};
 ghost use lib.ListN.{length};
 ghost use Rattle.std.specs.declared.result.Result.the-variants.{Ok, Err};
 ghost use Rattle.reader.specs.Reading.{rowCount, pastRow, withRow, rowsFrom, endFrom, rowsAnswer, rowsOf, overFront};
-ghost use Rattle.reader.specs.Spelling.{ReadsExactly};
+ghost use Rattle.reader.specs.Exactly.{ReadsExactly};
 use crate::faults::Cause;
 use crate::faults::Fault;
 use crate::records::read_row;

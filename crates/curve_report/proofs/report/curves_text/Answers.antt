@@ -4,7 +4,8 @@ use Prim.Native.Nat.{_-_}
 use lib.ListN.{length, take}
 use Rattle.std.specs.Of.String.{string-bytes}
 use Rattle.std.proofs.shelf.Results.{made-weaker}
-use Rattle.curve_report.specs.Lines.{RowsText, PrintsOnly}
+use Rattle.curve_report.specs.Lines.{RowsText}
+use Rattle.curve_report.specs.Printed.{PrintsOnly}
 use Rattle.curve_report.proofs.Front.{front, printed-rows}
 use Rattle.curve_report.proofs.report.curves_text.Needs as need
 
