@@ -1,3 +1,7 @@
 mod Tables
 mod Spelling
 mod Exact
+mod CallSpelling
+mod Stays
+mod CallRuns
+mod Running

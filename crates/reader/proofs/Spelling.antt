@@ -71,7 +71,7 @@ pub holds : {A E : Type 0} (b : Bool) (e : E) (r : Result A E) (x : A) → cond 
 holds true e r x h = (refl, h)
 holds false e r x h = (cc, cc)
 
-same-ok : {A B E : Type 0} (a c : A) (b d : B) → _≡_ {A = Result (A × B) E} (Ok (a, b)) (Ok (c, d)) → (a ≡ c) × (b ≡ d)
+pub same-ok : {A B E : Type 0} (a c : A) (b d : B) → _≡_ {A = Result (A × B) E} (Ok (a, b)) (Ok (c, d)) → (a ≡ c) × (b ≡ d)
 same-ok {A} {B} a c b d e = let whole : _≡_ {A = A × B} (a, b) (c, d) = cc in (ap (λ (p : A × B). p .0) whole, ap (λ (p : A × B). p .1) whole)
 
 -- what a record that is read says of the bytes
@@ -158,7 +158,7 @@ same-row : (row : DueRow) (a b c d e : ℕ) → a ≡ row .first → b ≡ row .
 same-row row a b c d e p q r s t = λ i. record { first = p i; last = q i; due = r i; early = s i; late = t i }
 
 -- the bytes after a record and its length, by what lies at its byte
-after-at : (bytes front rest : List ℕ) (at next : ℕ) → drop at bytes ≡ front ++ rest → drop next bytes ≡ rest → at ≤ next → next ≤ length bytes → at + length front ≡ next
+pub after-at : (bytes front rest : List ℕ) (at next : ℕ) → drop at bytes ≡ front ++ rest → drop next bytes ≡ rest → at ≤ next → next ≤ length bytes → at + length front ≡ next
 after-at bytes front rest at next cut after h within =
     let all : length bytes - at ≡ length front + length rest = sym (length-drop at bytes) ∙ (ap length cut ∙ length-append front rest) in
     let tail : length bytes - next ≡ length rest = sym (length-drop next bytes) ∙ ap length after in

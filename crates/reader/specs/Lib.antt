@@ -3,3 +3,8 @@ pub mod Records
 pub mod Reading
 pub mod Spelling
 pub mod Exactly
+pub mod CallRecords
+pub mod Running
+pub mod CallSpelling
+pub mod CallLaws
+pub mod Ran

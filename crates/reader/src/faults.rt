@@ -1,5 +1,6 @@
 ghost use mathlib.Core.Path.{_≡_};
-ghost use Rattle.reader.specs.Causes.{causeNumber, atStart};
+ghost use Rattle.reader.specs.Causes.{causeNumber, atStart, carried};
+use route::stop::Refusal;
 
 // Why a strip was refused.
 #[derive(Clone, Copy)]
@@ -14,12 +15,24 @@ pub enum Cause {
     RowMap,
     // a row whose numbers no curve may have
     Unlawful,
+    // a call's map has none of the forms of a call
+    CallMap,
+    // the route refused the call
+    Route(Refusal),
 }
 
-// The record at fault: how many were read before it, and the byte, counted from 0, where it begins.
+// The record at fault: how many were read or accepted before it, and the byte, counted from 0, where it begins.
 #[derive(Clone, Copy)]
 pub struct Fault {
     pub cause: Cause,
+    pub count: usize,
+    pub byte: usize,
+}
+
+// A call that the route refused, the count of those accepted before it, and the byte where its record begins.
+#[derive(Clone, Copy)]
+pub struct RefusedCall {
+    pub refusal: Refusal,
     pub count: usize,
     pub byte: usize,
 }
@@ -35,6 +48,8 @@ impl Cause {
             Cause::TooLarge => 8,
             Cause::RowMap => 9,
             Cause::Unlawful => 10,
+            Cause::CallMap => 11,
+            Cause::Route(refusal) => refusal.number(),
         }
     }
 
@@ -46,6 +61,19 @@ impl Cause {
             cause: self,
             count: 0,
             byte: 0,
+        }
+    }
+}
+
+// The route's refusal stays whole inside the fault.
+pub impl From<RefusedCall> for Fault as FaultFromRefused {
+    ghost converts = { λ call fault. fault ≡ carried call };
+
+    fn from(call: RefusedCall) -> Fault {
+        Fault {
+            cause: Cause::Route(call.refusal),
+            count: call.count,
+            byte: call.byte,
         }
     }
 }

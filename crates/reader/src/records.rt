@@ -13,14 +13,14 @@ fn word(strip: &[u8], at: usize) -> u16
     u16::from_be_bytes([strip[at], strip[at + 1]])
 }
 
-fn is_set(map: u8, bit: u8) -> bool
+pub(crate) fn is_set(map: u8, bit: u8) -> bool
     requires { ⌜ bit < 8 ⌝ }
     ensures { λ r. ⌜ r ≡ stands map bit ⌝ }
 {
     (map >> bit) % 2 == 1
 }
 
-fn width(map: u8, bit: u8) -> usize
+pub(crate) fn width(map: u8, bit: u8) -> usize
     requires { ⌜ bit < 8 ⌝ }
     ensures value { λ r. ⌜ r ≡ fieldWidth map bit ⌝ }
     ensures bound { λ r. ⌜ r ≤ 2 ⌝ }
@@ -29,7 +29,7 @@ fn width(map: u8, bit: u8) -> usize
 }
 
 // The field of a bit, which begins at `place`, or what stands for it where it is absent.
-fn field(strip: &[u8], map: u8, bit: u8, place: usize, absent: u16) -> u16
+pub(crate) fn field(strip: &[u8], map: u8, bit: u8, place: usize, absent: u16) -> u16
     requires known { ⌜ bit < 8 ⌝ }
     requires within { ⌜ place + fieldWidth map bit ≤ length (now strip) ⌝ }
     ensures { λ r. ⌜ r ≡ fieldOr (now (strip .entry)) map bit place absent ⌝ }

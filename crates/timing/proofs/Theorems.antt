@@ -4,9 +4,10 @@ use mathlib.Core.Logic.{_↔_}
 use mathlib.Core.List.{List, [], _∷_, reverse, reverseAux}
 use Prim.Native.Nat.{ℕ, zero, suc, _+_, _≤_, _<_, min, max}
 use native.Mathlib.Omega.{arith}
+use native.Mathlib.Decide.{decLe}
 use lib.ListN.{length, getD, take, length-take, length-reverse}
 use lib.Seq.{getD-take, take-take}
-use Rattle.std.proofs.shelf.Lists.{reverse-reverse}
+use Rattle.std.proofs.shelf.Lists.{reverse-reverse, getD-past}
 use Rattle.cost.specs.Algebra.{Algebra, Most}
 use Rattle.timing.specs.Visits.{Visit}
 use Rattle.timing.specs.Convex.{Bends}
@@ -17,7 +18,7 @@ use Rattle.timing.specs.Reach.{soon, Reaches}
 use Rattle.timing.specs.Minutes.{minutes, cap, latest}
 use Rattle.timing.proofs.Costs.{most-eq, antisym}
 use Rattle.timing.specs.Back.{Lowest, Within, Early, reach, fill, ending, Marked, top, BackBy, BestBack}
-use Rattle.timing.proofs.Back.{within-mono, within-open, within-reach}
+use Rattle.timing.proofs.Back.{within-mono, within-open, within-reach, early-antisym}
 use Rattle.timing.proofs.Bests.{fill-best, fill-best-by, best-unique, best-mark, marks-exist}
 use Rattle.timing.proofs.Forward.{early-at, at-early, early-reverse, early-unreverse, top-final, final-at, reversed, fits-length, top-within, feasible-back, back-feasible, latest-fill, bends-back, bill-back, best-forward}
 
@@ -212,3 +213,13 @@ module _ {E : Type 0} (K : Algebra E) where
           let k : (i < n) × (i < length vs) = (omega (arith, length-take n vs), omega (arith, length-take n vs)) in
           let m = marks .each i (k .1) in
           (m .0, subst (λ z. Best K z (m .0)) (sym (take-take (suc i) n vs (k .0))) (m .1), m .2 ∙ sym (getD-take n ms i 0 (k .0)))
+
+  -- there is one list of marks
+  pub marks-one : (vs : List (Visit E)) (ms ns : List ℕ) → Marks K vs ms → Marks K vs ns → ms ≡ ns
+  marks-one vs ms ns p q = early-antisym ms ns (at-early ms ns (p .many ∙ sym (q .many)) (λ i. omega (arith, same i))) (at-early ns ms (q .many ∙ sym (p .many)) (λ i. omega (arith, same i)))
+    where
+      same : (i : ℕ) → getD ms i 0 ≡ getD ns i 0
+      same i = elim (decLe (suc i) (length vs)) [
+        | yes h ↦ mark-one vs i (getD ms i 0) (getD ns i 0) (p .each i h) (q .each i h)
+        | no h ↦ getD-past ms i 0 (omega (arith, p .many)) ∙ sym (getD-past ns i 0 (omega (arith, q .many)))
+      ]

@@ -31,6 +31,7 @@ pub record OneBest {E : Type 0} (K : Algebra E) : Type 0 where
   pub one : (vs : List (Visit E)) (ts us : List ℕ) → Best K vs ts → Best K vs us → ts ≡ us
   pub marked : (vs : List (Visit E)) → Bends K vs → Feasible vs → (ms : List ℕ) × Marks K vs ms
   pub mark-one : (vs : List (Visit E)) (i s t : ℕ) → Mark K vs i s → Mark K vs i t → s ≡ t
+  pub marks-one : (vs : List (Visit E)) (ms ns : List ℕ) → Marks K vs ms → Marks K vs ns → ms ≡ ns
 
 -- the marks give the best timetable
 pub record FromMarks {E : Type 0} (K : Algebra E) : Type 0 where

@@ -1,4 +1,4 @@
-use Rattle.timing.proofs.Theorems.{best-there, best-one, marks-there, mark-one}
+use Rattle.timing.proofs.Theorems.{best-there, best-one, marks-there, mark-one, marks-one}
 use Rattle.timing.proofs.theory.best_is_one.Needs as need
 
 pub returns : need.returns
@@ -9,4 +9,5 @@ returns g c =
       one = best-one K;
       marked = λ vs p h. marks-there K vs (h .0) p (h .1);
       mark-one = mark-one K;
+      marks-one = marks-one K;
     }

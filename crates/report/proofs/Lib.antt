@@ -1,0 +1,5 @@
+mod Lengths
+mod Lawfully
+mod Pieces
+mod Stops
+mod Told

@@ -1,0 +1,5 @@
+pub mod Refusals
+pub mod Reports
+pub mod Bounds
+pub mod Routes
+pub mod Writing

@@ -1,0 +1,12 @@
+pub mod Views
+pub mod Objections
+pub mod Splices
+pub mod Alterations
+pub mod Remarks
+pub mod Soundness
+pub mod Settling
+pub mod Readings
+pub mod Joinings
+pub mod Uniqueness
+pub mod JoinsOne
+pub mod Runnings

@@ -1,0 +1,10 @@
+pub mod Refusals
+pub mod Plain
+pub mod Judged
+pub mod Table
+pub mod Joins
+pub mod Drafts
+pub mod Calls
+pub mod Guarantee
+pub mod Unique
+pub mod Runs
