@@ -1,4 +1,6 @@
 // Runs the worked cards and prints each: its stops with curve, leg, mark and minute, its least cost, and the join.
+#![tactic(auto)]
+
 mod show;
 
 use card_table::table::{card_rows, late_rows};

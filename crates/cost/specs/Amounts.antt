@@ -32,7 +32,7 @@ abbrev pub whole : Algebra ℕ
 whole = record {
   nought = 0;
   plus = λ a b. a + b;
-  less = ltb;
+  less = nat_lt;
   size = λ a. a;
   plus_comm = whole_comm;
   plus_assoc = whole_assoc;

@@ -1,4 +1,6 @@
 // Cost kinds: the trait with its laws, amounts, pairs of any two kinds, and the texts of written kinds.
+#![tactic(auto)]
+
 pub mod amount;
 pub mod amounts;
 pub mod kind;

@@ -1,4 +1,6 @@
 // What is printed of a strip's curves.
+#![tactic(auto)]
+
 mod lines;
 pub mod report;
 #[cfg(test)]

@@ -1,4 +1,6 @@
 // Prints the curves of the strip on standard input, one to a line, or the fault in its rows.
+#![tactic(auto)]
+
 use curve_report::report::curves_text;
 use reader::input::read_strip;
 use std::io;

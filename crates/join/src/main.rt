@@ -1,4 +1,6 @@
 // Joins two half routes that are filed as strips: prints the report of each, and the least cost of the joined route.
+#![tactic(auto)]
+
 use std::fs::File;
 use std::io::{Read, Write};
 use std::{env, io};

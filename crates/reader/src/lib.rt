@@ -1,4 +1,6 @@
 // Strips: bytes that hold due rows and then calls on a route.
+#![tactic(auto)]
+
 mod call;
 pub mod calls;
 pub mod faults;

@@ -1,4 +1,6 @@
 // Routes: stops that are spliced, and the least-cost timetable after any list of splices.
+#![tactic(auto)]
+
 mod alter;
 pub mod card;
 mod draft;

@@ -1,4 +1,6 @@
 // Runs the worked examples of the route, as they are worked out by hand from its rules.
+#![tactic(auto)]
+
 #[cfg(test)]
 mod tests {
     use cost::amount::Amount;

@@ -1,4 +1,6 @@
 // Penalty sources: what a source is, the due book, and layers over any source.
+#![tactic(auto)]
+
 pub mod book;
 pub mod cheapest;
 pub mod due;

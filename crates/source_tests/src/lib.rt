@@ -1,4 +1,6 @@
 // Tests of the penalty sources: each side of every limit, and piles of layers.
+#![tactic(auto)]
+
 #[cfg(test)]
 mod tests {
     use bend_book::bend::{Bend, BendBook, BendHead};

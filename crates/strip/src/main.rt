@@ -1,4 +1,6 @@
 // Prints the reports of the strip on standard input, by money and by promise, and how its calls ended.
+#![tactic(auto)]
+
 use std::io;
 use std::io::{Read, Write};
 use strip_report::text::strip_text;

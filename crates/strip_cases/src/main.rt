@@ -1,5 +1,7 @@
 // Runs the commands in the file `cases`, one to a line, on the strips beside it, and prints each command and what comes
 // of it: `strip NAME` as the program strip prints it, `join FIRST I LEG SECOND J` as the program join does.
+#![tactic(auto)]
+
 use anyhow::anyhow;
 use std::fs;
 use std::io::Write;

@@ -1,4 +1,6 @@
 // Least-cost timetables of stops in a given order: the theory, and the engine's core over any line of stops.
+#![tactic(auto)]
+
 pub mod line;
 pub mod marks;
 pub mod minutes;

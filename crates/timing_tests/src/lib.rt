@@ -1,4 +1,6 @@
 // Tests of the crate `timing` over small lines of stops, worked out by hand.
+#![tactic(auto)]
+
 pub mod due;
 pub mod lines;
 pub mod pricing;
