@@ -10,4 +10,4 @@ pub returns-then-bend-first : goal.returns-then-bend-first
 returns-then-bend-first c =
     let bs = c.args.bends.now in
     let some : 0 < length bs = omega (arith, ltb-false) in
-    orderly_from c.args.first bs c.each-follows.result some (eq-eqb _ _ c.if-bend-first.true) (c.each-follows.ensures ∙ ap (each_follows (bend_at bs 0)) (take_rest bs 1))
+    orderly_from c.args.first bs c.each_follows.result some (eq-eqb _ _ c.if-bend-first.true) (c.each_follows.ensures ∙ ap (each_follows (bend_at bs 0)) (take_rest bs 1))

@@ -10,8 +10,8 @@ loop-answer-preserved c =
     let i = c.loop-answer.answer-index in
     let here : i < length rs = omega arith in
     let before = string_bytes c.loop-answer.text in
-    let line = c.as-str.ensures.value ∙ c.in-ok-line.ensures in
-    c.in-ok-push-str.ensures.bytes
+    let line = c.as_str.ensures.value ∙ c.in_ok-line.ensures in
+    c.in_ok-push_str.ensures.bytes
     ∙ ap (λ (l : List ℕ). before ++ l) line
     ∙ ap (λ (l : List ℕ). l ++ answer_line (get_or rs i (Ok tt))) c.loop-answer.invariant
     ∙ sym (answers_more rs i (Ok tt) here)

@@ -6,15 +6,15 @@ use Rattle.card_table.proofs.lines.card_text.Goals as goal
 pub returns : goal.returns
 returns c =
     four
-    (string_bytes c.in-ok-text.text)
-    (string_bytes c.push-str.new.self)
-    (string_bytes c.push-str-2.new.self)
-    (string_bytes c.push-str-3.new.self)
+    (string_bytes c.in_ok-text.text)
+    (string_bytes c.push_str.new.self)
+    (string_bytes c.push_str-2.new.self)
+    (string_bytes c.push_str-3.new.self)
     (codes "card " ++ (c.args.name.now ++ (10 ∷ [])))
     (answer_lines c.args.answers.now)
     (facts_lines 1 c.args.facts.now)
     c.args.last.now
-    c.in-ok-text.ensures
-    (c.in-ok-push-str.ensures.bytes ∙ ap (λ (l : List ℕ). string_bytes c.in-ok-text.text ++ l) (c.as-str.ensures.value ∙ c.in-ok-refusals.ensures))
-    (c.in-ok-push-str-2.ensures.bytes ∙ ap (λ (l : List ℕ). string_bytes c.push-str.new.self ++ l) (c.as-str-2.ensures.value ∙ c.in-ok-stops.ensures))
-    c.in-ok-push-str-3.ensures.bytes
+    c.in_ok-text.ensures
+    (c.in_ok-push_str.ensures.bytes ∙ ap (λ (l : List ℕ). string_bytes c.in_ok-text.text ++ l) (c.as_str.ensures.value ∙ c.in_ok-refusals.ensures))
+    (c.in_ok-push_str-2.ensures.bytes ∙ ap (λ (l : List ℕ). string_bytes c.push_str.new.self ++ l) (c.as_str-2.ensures.value ∙ c.in_ok-stops.ensures))
+    c.in_ok-push_str-3.ensures.bytes

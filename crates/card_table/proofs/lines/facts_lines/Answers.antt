@@ -12,9 +12,9 @@ loop-i-preserved c =
     let none : Facts = record { curve = 0; leg = 0; mark = 0; minute = 0 } in
     let here : i < length fs = omega arith in
     let more = facts_more fs i none here in
-    let grown = c.in-ok-push-str.ensures.bytes in
-    let value = c.as-str.ensures.value in
-    let line = c.in-ok-line.ensures in
+    let grown = c.in_ok-push_str.ensures.bytes in
+    let value = c.as_str.ensures.value in
+    let line = c.in_ok-line.ensures in
     let inv = c.loop-i.invariant in
     cc
 

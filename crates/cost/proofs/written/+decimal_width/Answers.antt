@@ -9,4 +9,4 @@ returns-then-n-lt10 t c = record { few = omega arith; value = sym (len_digit c.a
 pub returns : goal.returns
 returns t c =
     let step = len_step c.args.n c.if-n-lt10.false (omega arith) in
-    record { few = omega (arith, length-decimal-le 20 c.args.n (omega arith) (omega arith) (omega arith), c.decimal-width.ensures.value); value = omega (arith, c.decimal-width.ensures.value) }
+    record { few = omega (arith, length-decimal-le 20 c.args.n (omega arith) (omega arith) (omega arith), c.decimal_width.ensures.value); value = omega (arith, c.decimal_width.ensures.value) }

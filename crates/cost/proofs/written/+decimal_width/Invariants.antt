@@ -1,4 +1,4 @@
 use Rattle.cost.proofs.written.+decimal_width.Given as goal
 
-abbrev pub decreases-decimal-width : goal.decreases-decimal-width
-decreases-decimal-width l = l.n
+abbrev pub decreases-decimal_width : goal.decreases-decimal_width
+decreases-decimal_width l = l.n

@@ -12,20 +12,20 @@ returns-then-n-lt10 t c = record {
   bytes = put_digit c.args.buf.now c.args.at c.args.n c.if-n-lt10.true;
 }
 
-pub put-decimal-last-requires : goal.put-decimal-last-requires
-put-decimal-last-requires t c = omega (arith, len_step c.args.n c.if-n-lt10.false (omega arith))
+pub put_decimal-last-requires : goal.put_decimal-last-requires
+put_decimal-last-requires t c = omega (arith, len_step c.args.n c.if-n-lt10.false (omega arith))
 
 pub bounds-buf-last : goal.bounds-buf-last
-bounds-buf-last t c = omega (arith, len_step c.args.n c.if-n-lt10.false (omega arith), ap length c.put-decimal-last.ensures.bytes, length_put (decimal (c.args.n / 10)) c.args.buf.now c.args.at)
+bounds-buf-last t c = omega (arith, len_step c.args.n c.if-n-lt10.false (omega arith), ap length c.put_decimal-last.ensures.bytes, length_put (decimal (c.args.n / 10)) c.args.buf.now c.args.at)
 
 pub overflow-add-result-2 : goal.overflow-add-result-2
 overflow-add-result-2 t c = let l = len_step c.args.n c.if-n-lt10.false (omega arith) in search rules
 
 pub returns : goal.returns
 returns t c = record {
-  place = omega (arith, c.put-decimal-last.ensures.place, len_step c.args.n c.if-n-lt10.false (omega arith));
+  place = omega (arith, c.put_decimal-last.ensures.place, len_step c.args.n c.if-n-lt10.false (omega arith));
   bytes =
-      ap (λ (l : List ℕ). set l c.put-decimal-last.result (48 + c.args.n % 10)) c.put-decimal-last.ensures.bytes
-      ∙ ap (λ (i : ℕ). set (put c.args.buf.now c.args.at (decimal (c.args.n / 10))) i (48 + c.args.n % 10)) c.put-decimal-last.ensures.place
+      ap (λ (l : List ℕ). set l c.put_decimal-last.result (48 + c.args.n % 10)) c.put_decimal-last.ensures.bytes
+      ∙ ap (λ (i : ℕ). set (put c.args.buf.now c.args.at (decimal (c.args.n / 10))) i (48 + c.args.n % 10)) c.put_decimal-last.ensures.place
       ∙ put_step c.args.buf.now c.args.at c.args.n c.if-n-lt10.false (omega arith);
 }

@@ -10,34 +10,34 @@ use Rattle.reader.proofs.calls.run_call.Goals as goal
 ok-not-err : false ≡ true → ⊥
 ok-not-err e = let z : ◌≡◌ {A = ℕ} 0 1 = cc in omega arith
 
-pub read-call-requires : goal.read-call-requires
-read-call-requires g c =
+pub read_call-requires : goal.read_call-requires
+read_call-requires g c =
     let r = c.args.route.now in
-    omega (arith, c.stop-count.ensures, length-map (vec_items r.stops) plain, r.stops.ok.0, r.few)
+    omega (arith, c.stop_count.ensures, length-map (vec_items r.stops) plain, r.stops.ok.0, r.few)
 
-pub returns-in-err-apply-call : goal.returns-in-err-apply-call
-returns-in-err-apply-call g c =
-    let told = err_from_is_err_and c.from-residual.result c.from-residual.ensures.1 in
+pub returns-in_err-apply_call : goal.returns-in_err-apply_call
+returns-in_err-apply_call g c =
+    let told = err_from_is_err_and c.from_residual.result c.from_residual.ensures.1 in
     let K = g.Kind.Cost.algebra in
     let M = g.S.Source.meaning c.args.route.now.source in
     record {
-      source = c.apply-call.ensures.source;
+      source = c.apply_call.ensures.source;
       ran = record {
-        call = rw told.1 (refused_call K M c.args.strip.now c.args.here (plains (vec_items c.args.route.now.stops)) c.stop-count.result c.in-Ok.splice c.in-Ok.next c.apply-call.result c.in-err-apply-call.field-0.0 told.0 (plains (vec_items c.apply-call.new.route.stops)) c.stop-count.ensures c.in-Ok.ensures c.apply-call.ensures.spliced.judged c.in-err-apply-call.was c.apply-call.ensures.told told.2);
-        marked = c.apply-call.ensures.spliced.marked;
-        stays = λ _. c.apply-call.ensures.spliced.stays (ap (λ (x : Result (Unit {0}) RefusedCall). is_err (answer_of x)) c.in-err-apply-call.was);
+        call = rw told.1 (refused_call K M c.args.strip.now c.args.here (plains (vec_items c.args.route.now.stops)) c.stop_count.result c.in-Ok.splice c.in-Ok.next c.apply_call.result c.in_err-apply_call.field-0.0 told.0 (plains (vec_items c.apply_call.new.route.stops)) c.stop_count.ensures c.in-Ok.ensures c.apply_call.ensures.spliced.judged c.in_err-apply_call.was c.apply_call.ensures.told told.2);
+        marked = c.apply_call.ensures.spliced.marked;
+        stays = λ _. c.apply_call.ensures.spliced.stays (ap (λ (x : Result (Unit {0}) RefusedCall). is_err (answer_of x)) c.in_err-apply_call.was);
       };
     }
 
-pub returns-in-ok-apply-call : goal.returns-in-ok-apply-call
-returns-in-ok-apply-call g c =
+pub returns-in_ok-apply_call : goal.returns-in_ok-apply_call
+returns-in_ok-apply_call g c =
     let K = g.Kind.Cost.algebra in
     let M = g.S.Source.meaning c.args.route.now.source in
     record {
-      source = c.apply-call.ensures.source;
+      source = c.apply_call.ensures.source;
       ran = record {
-        call = accepted_call K M c.args.strip.now c.args.here (plains (vec_items c.args.route.now.stops)) c.stop-count.result c.in-Ok.splice c.in-Ok.next c.apply-call.result c.advanced.result (plains (vec_items c.apply-call.new.route.stops)) c.stop-count.ensures c.in-Ok.ensures c.apply-call.ensures.spliced.judged c.in-ok-apply-call.was c.advanced.ensures;
-        marked = c.apply-call.ensures.spliced.marked;
+        call = accepted_call K M c.args.strip.now c.args.here (plains (vec_items c.args.route.now.stops)) c.stop_count.result c.in-Ok.splice c.in-Ok.next c.apply_call.result c.advanced.result (plains (vec_items c.apply_call.new.route.stops)) c.stop_count.ensures c.in-Ok.ensures c.apply_call.ensures.spliced.judged c.in_ok-apply_call.was c.advanced.ensures;
+        marked = c.apply_call.ensures.spliced.marked;
         stays = λ e. absurd (ok-not-err e);
       };
     }
@@ -47,7 +47,7 @@ returns-in-Err g c =
     record {
       source = refl;
       ran = record {
-        call = wrong_call g.Kind.Cost.algebra (g.S.Source.meaning c.args.route.now.source) c.args.strip.now c.args.here (plains (vec_items c.args.route.now.stops)) c.stop-count.result c.in-Err.cause c.fault.result c.stop-count.ensures c.in-Err.ensures c.fault.ensures;
+        call = wrong_call g.Kind.Cost.algebra (g.S.Source.meaning c.args.route.now.source) c.args.strip.now c.args.here (plains (vec_items c.args.route.now.stops)) c.stop_count.result c.in-Err.cause c.fault.result c.stop_count.ensures c.in-Err.ensures c.fault.ensures;
         marked = λ h. h;
         stays = λ _. refl;
       };

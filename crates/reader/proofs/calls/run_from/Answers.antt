@@ -6,42 +6,42 @@ use Rattle.reader.proofs.calls.run_from.Given as given
 use Rattle.reader.proofs.calls.run_from.Goals as goal
 
 -- a turn after which running goes on
-turned : (g : given.Over) (c : goal.In-ok-here g)
-    → Further c.args.strip.now c.loop-here.here c.in-ok-here.here
-    × Onward g.Kind.Cost.algebra (g.S.Source.meaning c.args.route.now.source) c.args.strip.now c.args.at (vec_items c.args.route.now.stops) c.in-ok-here.here (vec_items c.run-call.new.route.stops)
+turned : (g : given.Over) (c : goal.In_ok-here g)
+    → Further c.args.strip.now c.loop-here.here c.in_ok-here.here
+    × Onward g.Kind.Cost.algebra (g.S.Source.meaning c.args.route.now.source) c.args.strip.now c.args.at (vec_items c.args.route.now.stops) c.in_ok-here.here (vec_items c.run_call.new.route.stops)
 turned g c =
     let K = g.Kind.Cost.algebra in
     let M = g.S.Source.meaning in
     let bytes = c.args.strip.now in
     let before = vec_items c.args.route.now.stops in
     let here = c.loop-here.here in
-    let there = c.in-ok-here.here in
+    let there = c.in_ok-here.here in
     let ss = vec_items c.loop-here.route.stops in
-    let ts = vec_items c.run-call.new.route.stops in
-    let r = c.run-call.result in
-    let call = subst (λ (x : g.row.S.Denot). CallRan K (M x) bytes here ss r ts) c.loop-here.invariant.2 c.run-call.ensures.ran in
-    let was = c.in-ok-here.was in
+    let ts = vec_items c.run_call.new.route.stops in
+    let r = c.run_call.result in
+    let call = subst (λ (x : g.row.S.Denot). CallRan K (M x) bytes here ss r ts) c.loop-here.invariant.2 c.run_call.ensures.ran in
+    let was = c.in_ok-here.was in
     let inside : here.byte < length bytes = omega arith in (
       turn_further K (M c.args.route.now.source) bytes c.args.at before here ss ts r c.loop-here.invariant.3 call there was,
       turn K (M c.args.route.now.source) bytes c.args.at before here ss ts r c.loop-here.invariant.3 call there was inside,
     )
 
-pub returns-in-err-here : goal.returns-in-err-here
-returns-in-err-here g c =
+pub returns-in_err-here : goal.returns-in_err-here
+returns-in_err-here g c =
     let K = g.Kind.Cost.algebra in
     let M = g.S.Source.meaning in
     let bytes = c.args.strip.now in
     let before = vec_items c.args.route.now.stops in
     let here = c.loop-here.here in
     let ss = vec_items c.loop-here.route.stops in
-    let ts = vec_items c.run-call.new.route.stops in
-    let r = c.run-call.result in
-    let call = subst (λ (x : g.row.S.Denot). CallRan K (M x) bytes here ss r ts) c.loop-here.invariant.2 c.run-call.ensures.ran in
-    let told = err_from_is_err_and c.from-residual.result c.from-residual.ensures.1 in
+    let ts = vec_items c.run_call.new.route.stops in
+    let r = c.run_call.result in
+    let call = subst (λ (x : g.row.S.Denot). CallRan K (M x) bytes here ss r ts) c.loop-here.invariant.2 c.run_call.ensures.ran in
+    let told = err_from_is_err_and c.from_residual.result c.from_residual.ensures.1 in
     let inside : here.byte < length bytes = omega arith in
     record {
-      source = c.run-call.ensures.source ∙ c.loop-here.invariant.2;
-      ran = rw (told.1, told.2) (fault_turn K (M c.args.route.now.source) bytes c.args.at before here ss ts r c.loop-here.invariant.3 call c.in-err-here.field-0.0 c.in-err-here.was inside);
+      source = c.run_call.ensures.source ∙ c.loop-here.invariant.2;
+      ran = rw (told.1, told.2) (fault_turn K (M c.args.route.now.source) bytes c.args.at before here ss ts r c.loop-here.invariant.3 call c.in_err-here.field-0.0 c.in_err-here.was inside);
     }
 
 pub loop-here-smaller : goal.loop-here-smaller
@@ -52,7 +52,7 @@ loop-here-preserved g c =
     let on = turned g c in (
       omega (arith, on.0.more, on.0.counted, c.loop-here.invariant.0),
       on.0.within,
-      c.run-call.ensures.source ∙ c.loop-here.invariant.2,
+      c.run_call.ensures.source ∙ c.loop-here.invariant.2,
       on.1,
     )
 

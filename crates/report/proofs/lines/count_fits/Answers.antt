@@ -2,8 +2,8 @@ use Rattle.report.specs.Reports.{newline}
 use Rattle.report.proofs.Pieces.{leaves_then, leaves_stop}
 use Rattle.report.proofs.lines.count_fits.Goals as goal
 
-pub returns-in-err-room : goal.returns-in-err-room
-returns-in-err-room c = rw c.from-residual.ensures (leaves_stop newline c.in-err-room.ensures)
+pub returns-in_err-room : goal.returns-in_err-room
+returns-in_err-room c = rw c.from_residual.ensures (leaves_stop newline c.in_err-room.ensures)
 
 pub returns : goal.returns
-returns c = leaves_then c.in-ok-room.ensures c.bytes-fit.ensures
+returns c = leaves_then c.in_ok-room.ensures c.bytes_fit.ensures

@@ -34,7 +34,7 @@ returns g c =
     let fs = route_facts g.Kind.Cost.algebra (g.S.Source.meaning c.args.route.now.source) ss in
     let size = all_length g.Kind.Cost.algebra (g.S.Source.meaning c.args.route.now.source) ss in
     let many = length-map ss plain in
-    let ended : c.stop-count-count.result ≡ c.loop-i.i = omega arith in
+    let ended : c.stop_count-count.result ≡ c.loop-i.i = omega arith in
     record {
       few = omega arith;
       read = ap (λ n. take n c.loop-i.table) ended ∙ c.loop-i.invariant.1 ∙ take_all c.loop-i.i fs (omega arith);

@@ -14,19 +14,19 @@ returns g c = λ e.
     let K = g.Kind.Cost.algebra in
     let m = g.S.Source.meaning c.args.route.now.source in
     let buf = c.args.buf.now in
-    let cost = g.Kind.Cost.exact c.least-cost.result in
+    let cost = g.Kind.Cost.exact c.least_cost.result in
     let text = g.Kind.Written.text cost in
     let few : length ss ≤ 64 = omega arith in
-    let law = c.least-cost.ensures.lawful in
+    let law = c.least_cost.ensures.lawful in
     record {
       cost = cost;
-      least = c.least-cost.ensures.least;
-      best = c.least-cost.ensures.best;
-      answered = c.write-report.ensures.answer ∙ ap (λ (fs : List Facts). answer (length (report_text fs text)) (length buf)) e;
-      bytes = c.write-report.ensures.bytes ∙ ap (λ (fs : List Facts). laid buf 0 (report_text fs text)) e;
+      least = c.least_cost.ensures.least;
+      best = c.least_cost.ensures.best;
+      answered = c.write_report.ensures.answer ∙ ap (λ (fs : List Facts). answer (length (report_text fs text)) (length buf)) e;
+      bytes = c.write_report.ensures.bytes ∙ ap (λ (fs : List Facts). laid buf 0 (report_text fs text)) e;
       bound = λ marked.
-          subst (λ (fs : List Facts). Bounded fs (K.size cost) text g.Kind.Written.longest) e c.write-report.ensures.bound
+          subst (λ (fs : List Facts). Bounded fs (K.size cost) text g.Kind.Written.longest) e c.write_report.ensures.bound
           (omega (arith, all_length K m ss))
           (route_ordinary K m law ss few marked)
-          (least_small K m law ss few cost (c.least-cost.ensures.least marked));
+          (least_small K m law ss few cost (c.least_cost.ensures.least marked));
     }

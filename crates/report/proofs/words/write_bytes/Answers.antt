@@ -12,9 +12,9 @@ returns c =
     let at = c.args.at in
     let fits : at + length xs ≤ length buf = omega arith in
     let width : at + length xs - at ≡ length xs = omega arith in
-    let written : put_mid at (at + length xs - at) buf c.copy-from-slice.new.self ≡ put buf at xs =
-    ap (λ (n : ℕ). put_mid at n buf c.copy-from-slice.new.self) width
-    ∙ ap (λ (ys : List ℕ). put_mid at (length xs) buf ys) c.copy-from-slice.ensures.after
+    let written : put_mid at (at + length xs - at) buf c.copy_from_slice.new.self ≡ put buf at xs =
+    ap (λ (n : ℕ). put_mid at n buf c.copy_from_slice.new.self) width
+    ∙ ap (λ (ys : List ℕ). put_mid at (length xs) buf ys) c.copy_from_slice.ensures.after
     ∙ put_part xs buf at fits in
     record {
       size = ap length written ∙ length_put xs buf at;

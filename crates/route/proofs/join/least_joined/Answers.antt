@@ -6,4 +6,4 @@ pub returns : goal.returns
 returns g c =
     let a = c.args.line.first in
     let b = c.args.line.second in
-    joined_least g.A.Kind.Cost.algebra (g.A.Source.meaning a.source.now) (g.B.Source.meaning b.source.now) (drafted a.front.now a.put a.back.now a.leg) (drafted b.front.now b.put b.back.now b.leg) c.peak.ensures.lawful c.peak-2.ensures.lawful c.requires c.all-marks-marks.result (g.A.Kind.Cost.exact c.least.result) c.all-marks-marks.ensures c.least.ensures
+    joined_least g.A.Kind.Cost.algebra (g.A.Source.meaning a.source.now) (g.B.Source.meaning b.source.now) (drafted a.front.now a.put a.back.now a.leg) (drafted b.front.now b.put b.back.now b.leg) c.peak.ensures.lawful c.peak-2.ensures.lawful c.requires c.all_marks-marks.result (g.A.Kind.Cost.exact c.least.result) c.all_marks-marks.ensures c.least.ensures

@@ -17,7 +17,7 @@ loop-splice-preserved g c =
     let inv = c.loop-splice.invariant in
     let us = vec_items c.loop-splice.route.stops in
     let vs = vec_items c.apply-answer.new.self.stops in
-    let pushed = chosen _ _ _ _ c.push.ensures.items (ap is_ok c.in-ok-push.was) in
+    let pushed = chosen _ _ _ _ c.push.ensures.items (ap is_ok c.in_ok-push.was) in
     let lt : i < length h = omega arith in (
       c.apply-answer.ensures.source ∙ inv.0,
       run_more K M x c.loop-splice.route.source (vec_items c.args.route.now.stops) us vs (take i h) _ (vec_items c.loop-splice.answers) (vec_items c.push.new.self) _ c.apply-answer.result inv.0 inv.1 c.apply-answer.ensures.spliced (take_more h i _ lt) pushed,

@@ -4,8 +4,8 @@ use Rattle.route.proofs.run.run_one.Goals as goal
 
 pub returns : goal.returns
 returns g c =
-    let opened = c.in-ok-route.ensures in
-    let made = c.in-ok-answers.ensures in
-    let route = c.in-ok-route.route in
-    let last = c.make-all.new.route in
-    ran_from g.S.Kind.Cost.algebra g.S.Source.meaning c.args.source route.source last.source (vec_items route.stops) (vec_items last.stops) c.args.splices.now (vec_items c.in-ok-answers.answers) c.stop-count.result (vec_items c.in-ok-facts.facts) (g.S.Kind.Cost.exact c.least-cost.result) opened.source opened.stops made.source made.runs made.marked c.in-ok-facts.ensures c.stop-count.ensures c.least-cost.ensures.best c.least-cost.ensures.least
+    let opened = c.in_ok-route.ensures in
+    let made = c.in_ok-answers.ensures in
+    let route = c.in_ok-route.route in
+    let last = c.make_all.new.route in
+    ran_from g.S.Kind.Cost.algebra g.S.Source.meaning c.args.source route.source last.source (vec_items route.stops) (vec_items last.stops) c.args.splices.now (vec_items c.in_ok-answers.answers) c.stop_count.result (vec_items c.in_ok-facts.facts) (g.S.Kind.Cost.exact c.least_cost.result) opened.source opened.stops made.source made.runs made.marked c.in_ok-facts.ensures c.stop_count.ensures c.least_cost.ensures.best c.least_cost.ensures.least

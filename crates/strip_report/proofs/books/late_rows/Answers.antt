@@ -11,7 +11,7 @@ loop-row-preserved c =
     let none : DueRow = record { first = 0; last = 0; due = 0; early = 0; late = 0 } in
     let here : i < length rows = omega arith in
     let more = ap (map lateness) (take_more rows i none here) ∙ map_push lateness _ _ in
-    let items = c.in-ok-push.ensures.items in
+    let items = c.in_ok-push.ensures.items in
     let inv = c.loop-row.invariant in
     let made = c.lateness.ensures in
     cc

@@ -14,13 +14,13 @@ use Rattle.strip_report.proofs.JoinOnly.{join_reports}
 use Rattle.strip_report.proofs.Pieces.{pieces_are}
 use Rattle.strip_report.proofs.join.join_reports.Goals as goal
 
-pub joined-count-count-requires : goal.joined-count-count-requires
-joined-count-count-requires c =
-    let a = c.in-ok-a.a.route in
-    let b = c.in-ok-b.b.route in
+pub joined_count-count-requires : goal.joined_count-count-requires
+joined_count-count-requires c =
+    let a = c.in_ok-a.a.route in
+    let b = c.in_ok-b.b.route in
     record {
-      front = omega (arith, a.few, a.stops.ok.0, length-map (vec_items a.stops) plain, c.stop-count.ensures);
-      back = omega (arith, b.few, b.stops.ok.0, length-map (vec_items b.stops) plain, c.stop-count-2.ensures);
+      front = omega (arith, a.few, a.stops.ok.0, length-map (vec_items a.stops) plain, c.stop_count.ensures);
+      back = omega (arith, b.few, b.stops.ok.0, length-map (vec_items b.stops) plain, c.stop_count-2.ensures);
     }
 
 pub returns : goal.returns
@@ -34,10 +34,10 @@ returns c =
     let i = c.args.i in
     let leg = c.args.leg in
     let j = c.args.j in
-    let one = c.in-ok-a.a in
-    let two = c.in-ok-b.b in
-    let shown = c.in-ok-a.ensures in
-    let shown-too = c.in-ok-b.ensures in
+    let one = c.in_ok-a.a in
+    let two = c.in_ok-b.b in
+    let shown = c.in_ok-a.ensures in
+    let shown-too = c.in_ok-b.ensures in
     let r = one.ended in
     let s = two.ended in
     let a = vec_items one.report in
@@ -45,25 +45,25 @@ returns c =
     let ps = plains (vec_items one.route.stops) in
     let qs = plains (vec_items two.route.stops) in
     let result = units c.join-joined.result in
-    let n = c.joined-count-count.result in
+    let n = c.joined_count-count.result in
     let x : (v : StripReport whole decimal (due_meaning rows) strip from r a) × (ps ≡ map told v.facts) =
-    subst (λ (l : List DueRow). (v : StripReport whole decimal (due_meaning l) strip from r a) × (ps ≡ map told v.facts)) c.in-ok-money-book.ensures (shown.told_by, shown.stops) in
+    subst (λ (l : List DueRow). (v : StripReport whole decimal (due_meaning l) strip from r a) × (ps ≡ map told v.facts)) c.in_ok-money_book.ensures (shown.told_by, shown.stops) in
     let y : (v : StripReport whole decimal (due_meaning more) other at s b) × (qs ≡ map told v.facts) =
-    subst (λ (l : List DueRow). (v : StripReport whole decimal (due_meaning l) other at s b) × (qs ≡ map told v.facts)) c.in-ok-money-book-2.ensures (shown-too.told_by, shown-too.stops) in
-    let book : vec_items one.route.source.rows ≡ rows = ap (λ (k : DueBook). vec_items k.rows) shown.source ∙ c.in-ok-money-book.ensures in
-    let book-too : vec_items two.route.source.rows ≡ more = ap (λ (k : DueBook). vec_items k.rows) shown-too.source ∙ c.in-ok-money-book-2.ensures in
+    subst (λ (l : List DueRow). (v : StripReport whole decimal (due_meaning l) other at s b) × (qs ≡ map told v.facts)) c.in_ok-money_book-2.ensures (shown-too.told_by, shown-too.stops) in
+    let book : vec_items one.route.source.rows ≡ rows = ap (λ (k : DueBook). vec_items k.rows) shown.source ∙ c.in_ok-money_book.ensures in
+    let book-too : vec_items two.route.source.rows ≡ more = ap (λ (k : DueBook). vec_items k.rows) shown-too.source ∙ c.in_ok-money_book-2.ensures in
     let judged : JoinJudged whole (due_meaning rows) ps i leg (due_meaning more) qs j result =
     subst (λ (l : List DueRow). JoinJudged whole (due_meaning rows) ps i leg (due_meaning l) qs j result) book-too
     (subst (λ (l : List DueRow). JoinJudged whole (due_meaning l) ps i leg (due_meaning (vec_items two.route.source.rows)) qs j result) book c.join-joined.ensures) in
     let count : n ≡ min i (length ps) + (length qs - (j - 1)) =
-    c.joined-count-count.ensures ∙ ap (λ (k : ℕ). min i k + (c.stop-count-2.result - (j - 1))) c.stop-count.ensures ∙ ap (λ (k : ℕ). min i (length ps) + (k - (j - 1))) c.stop-count-2.ensures in
-    let front = c.as-slice-3.ensures.value ∙ c.in-ok-front.ensures ∙ ap (λ (l : List ℕ). half_text (codes "first") l r) c.as-slice.ensures.value in
-    let back = c.as-slice-4.ensures.value ∙ c.in-ok-back.ensures ∙ ap (λ (l : List ℕ). half_text (codes "second") l s) c.as-slice-2.ensures.value in
-    let last = c.as-str.ensures.value ∙ c.in-ok-last.ensures in
-    let f = c.as-slice-3.result.now in
-    let g = c.as-slice-4.result.now in
-    let h = c.as-str.result.now in
-    IfOk-weaker c.put-together.result (λ v. vec_items v ≡ f ++ (g ++ h)) (λ v. JoinReports strip rows from i leg other more at j (vec_items v))
+    c.joined_count-count.ensures ∙ ap (λ (k : ℕ). min i k + (c.stop_count-2.result - (j - 1))) c.stop_count.ensures ∙ ap (λ (k : ℕ). min i (length ps) + (k - (j - 1))) c.stop_count-2.ensures in
+    let front = c.as_slice-3.ensures.value ∙ c.in_ok-front.ensures ∙ ap (λ (l : List ℕ). half_text (codes "first") l r) c.as_slice.ensures.value in
+    let back = c.as_slice-4.ensures.value ∙ c.in_ok-back.ensures ∙ ap (λ (l : List ℕ). half_text (codes "second") l s) c.as_slice-2.ensures.value in
+    let last = c.as_str.ensures.value ∙ c.in_ok-last.ensures in
+    let f = c.as_slice-3.result.now in
+    let g = c.as_slice-4.result.now in
+    let h = c.as_str.result.now in
+    IfOk-weaker c.put_together.result (λ v. vec_items v ≡ f ++ (g ++ h)) (λ v. JoinReports strip rows from i leg other more at j (vec_items v))
     (λ v is. join_reports strip rows from i leg other more at j r s a b (vec_items v) x.0 y.0 ps qs result n x.1 y.1 judged count
     (pieces_are (vec_items v) f g h (half_text (codes "first") a r) (half_text (codes "second") b s) (join_lines n result) is front back last))
-    c.put-together.ensures
+    c.put_together.ensures

@@ -5,10 +5,10 @@ use Rattle.strip_report.proofs.join.put_together.Goals as goal
 pub returns : goal.returns
 returns c =
     three _ _
-    (vec_items c.extend-from-slice-2.new.self)
+    (vec_items c.extend_from_slice-2.new.self)
     c.args.first.now
     c.args.second.now
     c.args.last.now
-    c.in-ok-text.ensures.items
-    c.in-ok-extend-from-slice.ensures.items
-    (c.in-ok-extend-from-slice-2.ensures.items ∙ ap (λ (l : List ℕ). vec_items c.extend-from-slice.new.self ++ l) c.as-bytes.ensures.value)
+    c.in_ok-text.ensures.items
+    c.in_ok-extend_from_slice.ensures.items
+    (c.in_ok-extend_from_slice-2.ensures.items ∙ ap (λ (l : List ℕ). vec_items c.extend_from_slice.new.self ++ l) c.as_bytes.ensures.value)

@@ -15,19 +15,19 @@ returns c =
     let strip = c.args.strip.now in
     let rows = c.args.rows.now in
     let from = c.args.from in
-    let r = c.in-ok-money.money.ended in
-    let s = c.in-ok-promise.promise.ended in
-    let m = vec_items c.in-ok-money.money.report in
-    let p = vec_items c.in-ok-promise.promise.report in
-    let books = c.in-ok-promise-books.ensures in
+    let r = c.in_ok-money.money.ended in
+    let s = c.in_ok-promise.promise.ended in
+    let m = vec_items c.in_ok-money.money.report in
+    let p = vec_items c.in_ok-promise.promise.report in
+    let books = c.in_ok-promise_books.ensures in
     let by_money : StripReport whole decimal (due_meaning rows) strip from r m =
-    subst (λ (l : List DueRow). StripReport whole decimal (due_meaning l) strip from r m) c.in-ok-money-book.ensures c.in-ok-money.ensures.told_by in
+    subst (λ (l : List DueRow). StripReport whole decimal (due_meaning l) strip from r m) c.in_ok-money_book.ensures c.in_ok-money.ensures.told_by in
     let by_promise : StripReport (paired whole whole) both (promised rows) strip from s p =
     subst (λ (l : List DueRow). StripReport (paired whole whole) both (pairing (due_meaning (map lateness rows)) (due_meaning l)) strip from s p) books.1
-    (subst (λ (l : List DueRow). StripReport (paired whole whole) both (pairing (due_meaning l) (due_meaning (vec_items c.in-ok-promise-books.field-0.second.rows))) strip from s p) books.0 c.in-ok-promise.ensures.told_by) in
-    let x = c.as-slice.result.now in
-    let y = c.as-slice-2.result.now in
-    IfOk-weaker c.strip-lines.result (λ v. vec_items v ≡ strip_text x y r) (λ v. Reports strip rows from (vec_items v))
+    (subst (λ (l : List DueRow). StripReport (paired whole whole) both (pairing (due_meaning l) (due_meaning (vec_items c.in_ok-promise_books.field-0.second.rows))) strip from s p) books.0 c.in_ok-promise.ensures.told_by) in
+    let x = c.as_slice.result.now in
+    let y = c.as_slice-2.result.now in
+    IfOk-weaker c.strip_lines.result (λ v. vec_items v ≡ strip_text x y r) (λ v. Reports strip rows from (vec_items v))
     (λ v is. reports strip rows from r s m p (vec_items v) c.requires by_money by_promise
-    (is ∙ ap (λ (l : List ℕ). strip_text l y r) c.as-slice.ensures.value ∙ ap (λ (l : List ℕ). strip_text m l r) c.as-slice-2.ensures.value))
-    c.strip-lines.ensures
+    (is ∙ ap (λ (l : List ℕ). strip_text l y r) c.as_slice.ensures.value ∙ ap (λ (l : List ℕ). strip_text m l r) c.as_slice-2.ensures.value))
+    c.strip_lines.ensures

@@ -10,14 +10,14 @@ returns c =
     _
     _
     _
-    (vec_items c.extend-from-slice-4.new.self)
+    (vec_items c.extend_from_slice-4.new.self)
     (heading (codes "money"))
     c.args.money.now
     (heading (codes "promise"))
     c.args.promise.now
     (last_line c.args.ended)
-    c.in-ok-text.ensures.items
-    c.in-ok-extend-from-slice.ensures.items
-    c.in-ok-extend-from-slice-2.ensures.items
-    c.in-ok-extend-from-slice-3.ensures.items
-    (c.in-ok-extend-from-slice-4.ensures.items ∙ ap (λ (l : List ℕ). vec_items c.extend-from-slice-3.new.self ++ l) (c.as-bytes.ensures.value ∙ c.in-ok-last.ensures))
+    c.in_ok-text.ensures.items
+    c.in_ok-extend_from_slice.ensures.items
+    c.in_ok-extend_from_slice-2.ensures.items
+    c.in_ok-extend_from_slice-3.ensures.items
+    (c.in_ok-extend_from_slice-4.ensures.items ∙ ap (λ (l : List ℕ). vec_items c.extend_from_slice-3.new.self ++ l) (c.as_bytes.ensures.value ∙ c.in_ok-last.ensures))

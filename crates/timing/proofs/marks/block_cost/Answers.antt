@@ -10,7 +10,7 @@ loop-j-init g c choice =
     let i = choice_inside K vs ms c.args.t choice in
     let x = c.price-here.ensures i.1 (omega arith) in
     let y = c.price-later.ensures (omega arith) i.2 in
-    subst (λ u. Walked K vs ms c.args.t (length ms) u (g.L.Kind.Cost.exact c.price-here.result) (g.L.Kind.Cost.exact c.price-later.result)) (sym c.latest-before-left.ensures)
+    subst (λ u. Walked K vs ms c.args.t (length ms) u (g.L.Kind.Cost.exact c.price-here.result) (g.L.Kind.Cost.exact c.price-later.result)) (sym c.latest_before-left.ensures)
     (walk_starts K vs ms c.args.t _ _ x y choice)
 
 pub returns-then-marks-j : goal.returns-then-marks-j
@@ -38,5 +38,5 @@ loop-j-preserved g c choice =
     let x = c.plus-here.ensures ∙ g.met.L.Kind.Cost.summed (exact l.here) (exact c.price.result) fit.0 in
     let y = c.plus-later.ensures ∙ g.met.L.Kind.Cost.summed (exact l.later) (exact c.price-in-loop-j.result) fit.1 in
     let moved = walk_moves K vs ms t i l.j l.left d k (exact l.here) (exact l.later) w h (exact c.price.result) (exact c.price-in-loop-j.result) p q in
-    subst₂ (Walked K vs ms t i c.latest-before-left-in-loop-j.result) (sym x) (sym y)
-    (subst (λ n. Walked K vs ms t i n (K.plus (exact l.here) (exact c.price.result)) (K.plus (exact l.later) (exact c.price-in-loop-j.result))) (sym c.latest-before-left-in-loop-j.ensures) moved)
+    subst₂ (Walked K vs ms t i c.latest_before-left-in-loop-j.result) (sym x) (sym y)
+    (subst (λ n. Walked K vs ms t i n (K.plus (exact l.here) (exact c.price.result)) (K.plus (exact l.later) (exact c.price-in-loop-j.result))) (sym c.latest_before-left-in-loop-j.ensures) moved)

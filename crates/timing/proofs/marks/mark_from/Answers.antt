@@ -10,7 +10,7 @@ loop-low-init g c = (
       let K = g.L.Kind.Cost.algebra in
       let vs = g.L.Line.visits c.args.line.now in
       let ms = c.args.marks.now in
-      subst (Between K vs ms c.args.soonest) (sym c.last-minute-high.ensures) (between_all K vs ms ready c.args.soonest e (omega (arith, c.last-minute-high.ensures))),
+      subst (Between K vs ms c.args.soonest) (sym c.last_minute-high.ensures) (between_all K vs ms ready c.args.soonest e (omega (arith, c.last_minute-high.ensures))),
 )
 
 pub returns : goal.returns

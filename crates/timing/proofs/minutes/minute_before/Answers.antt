@@ -13,7 +13,7 @@ returns-then-j-marked g c e =
     let d : suc j ≡ j + 1 = omega arith in
     let step : get_or (minutes vs ms) j 0 ≡ min (get_or ms j 0) (get_or (minutes vs ms) (j + 1) 0 - (at K vs (j + 1)).leg) =
     subst (λ n. get_or (minutes vs ms) j 0 ≡ min (get_or ms j 0) (get_or (minutes vs ms) n 0 - (at K vs n).leg)) d (minutes_step K vs ms j (omega arith)) in
-    omega (arith, step, c.latest-before.ensures)
+    omega (arith, step, c.latest_before.ensures)
 
 pub returns-else-j-marked : goal.returns-else-j-marked
 returns-else-j-marked g c e =

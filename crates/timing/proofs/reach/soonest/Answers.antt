@@ -4,4 +4,4 @@ use Rattle.timing.proofs.reach.soonest.Goals as goal
 
 pub returns : goal.returns
 returns g c h e =
-    omega (arith, reached_next (g.L.Line.visits c.args.line.now) g.L.Kind.Cost.algebra c.args.i c.args.ready c.first-minute.result c.leg.result h e c.first-minute.ensures c.leg.ensures c.first-minute.type-inv)
+    omega (arith, reached_next (g.L.Line.visits c.args.line.now) g.L.Kind.Cost.algebra c.args.i c.args.ready c.first_minute.result c.leg.result h e c.first_minute.ensures c.leg.ensures c.first_minute.type_inv)

@@ -8,9 +8,9 @@ use Rattle.bend_book.proofs.bend.BendHead.cost_at.Goals as goal
 pub loop-passed-preserved : goal.loop-passed-preserved
 loop-passed-preserved c =
     let h = c.args.self.now in
-    let f : SFits w16 c.step-at.result = search rules in
+    let f : SFits w16 c.step_at.result = search rules in
     let e = cost_step h.start c.args.bends.now h.first c.loop-passed.passed c.loop-passed.auto.passed in
-    let v = c.step-at.ensures in
+    let v = c.step_at.ensures in
     (omega (arith, ints), omega (arith, ints), omega (arith, ints), omega arith)
 
 pub returns : goal.returns

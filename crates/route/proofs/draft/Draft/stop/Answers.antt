@@ -18,10 +18,10 @@ pub returns-else-i-front-2 : goal.returns-else-i-front-2
 returns-else-i-front-2 g c =
     let d = c.args.self.now in
     let n : length (put_in d.put) ≡ 1 = ap (λ o. length (put_in o)) c.in-Some.is in
-    c.behind-at.ensures ∙ sym (in_back d.front.now d.put d.back.now d.leg c.args.i _ (omega arith))
+    c.behind_at.ensures ∙ sym (in_back d.front.now d.put d.back.now d.leg c.args.i _ (omega arith))
 
 pub returns-in-None : goal.returns-in-None
 returns-in-None g c =
     let d = c.args.self.now in
     let n : length (put_in d.put) ≡ 0 = ap (λ o. length (put_in o)) c.in-None.is in
-    c.behind-at-in-None.ensures ∙ sym (in_back d.front.now d.put d.back.now d.leg c.args.i _ (omega arith))
+    c.behind_at-in-None.ensures ∙ sym (in_back d.front.now d.put d.back.now d.leg c.args.i _ (omega arith))

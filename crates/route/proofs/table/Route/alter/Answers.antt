@@ -15,7 +15,7 @@ free g c =
     let i = c.in-Insert in
     let n = length-map ss plain in
     let k = r.stops.ok.0 in
-    let h = insert_free m (plains ss) i.place i.curve i.leg-in i.leg-out (ap (objection m (plains ss)) (sym i.is) ∙ c.requires) in
+    let h = insert_free m (plains ss) i.place i.curve i.leg_in i.leg_out (ap (objection m (plains ss)) (sym i.is) ∙ c.requires) in
     (h.0, omega (arith, h.1), omega (arith, h.2))
 
 pub put-requires : goal.put-requires
@@ -28,8 +28,8 @@ invariant-of-self g c =
     let h = free g (goal.at.invariant-of-self g c).In-Insert in
     (omega (arith, h.2, c.put.ensures.len), (omega (arith, c.put.ensures.capacity, c.args.self.now.room), tt))
 
-pub take-out-requires : goal.take-out-requires
-take-out-requires g c =
+pub take_out-requires : goal.take_out-requires
+take_out-requires g c =
     let r = c.args.self.now in
     let ss = vec_items r.stops in
     let m = g.S.Source.meaning r.source in
@@ -39,8 +39,8 @@ take-out-requires g c =
     let h = remove_free m (plains ss) i.place i.leg (ap (objection m (plains ss)) (sym i.is) ∙ c.requires) in
     record { from = h.0; to = omega (arith, h.1) }
 
-pub set-curve-requires : goal.set-curve-requires
-set-curve-requires g c =
+pub set_curve-requires : goal.set_curve-requires
+set_curve-requires g c =
     let r = c.args.self.now in
     let ss = vec_items r.stops in
     let m = g.S.Source.meaning r.source in

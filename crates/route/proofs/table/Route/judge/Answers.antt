@@ -27,9 +27,9 @@ returns-in-Some g c = record {
   free = λ e. absurd (let z : ◌≡◌ {A = ℕ} 0 1 = cc in omega arith);
 }
 
-pub returns-in-Some-first-blocked : goal.returns-in-Some-first-blocked
-returns-in-Some-first-blocked g c = record {
-  judged = blocked c.in-Some-first-blocked.stop (sym c.in-default.ensures) (subst (λ (vs : List (Visit g.row.S-Exact.Denot)). BlockedAt vs c.in-Some-first-blocked.stop) (same-is g (goal.at.returns-in-Some-first-blocked g c).After-draft-draft) c.in-Some-first-blocked.ensures);
+pub returns-in-Some-first_blocked : goal.returns-in-Some-first_blocked
+returns-in-Some-first_blocked g c = record {
+  judged = blocked c.in-Some-first_blocked.stop (sym c.in-default.ensures) (subst (λ (vs : List (Visit g.row.S-Exact.Denot)). BlockedAt vs c.in-Some-first_blocked.stop) (same-is g (goal.at.returns-in-Some-first_blocked g c).After-draft-draft) c.in-Some-first_blocked.ensures);
   free = λ e. absurd (let z : ◌≡◌ {A = ℕ} 0 1 = cc in omega arith);
 }
 

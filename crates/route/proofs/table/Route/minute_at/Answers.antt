@@ -13,7 +13,7 @@ returns g c =
     let r = c.args.self.now in
     let ss = vec_items r.stops in
     let old = c.load-marks.result in
-    let loaded : take (length ss) old ≡ marks ss = subst (λ (l : List Stop). take (length l) old ≡ marks l) c.as-slice.ensures.value c.load-marks.ensures.marks in
+    let loaded : take (length ss) old ≡ marks ss = subst (λ (l : List Stop). take (length l) old ≡ marks l) c.as_slice.ensures.value c.load-marks.ensures.marks in
     let lines = same_line K g.S.Source.meaning _ _ _ _ c.table-table.ensures.source c.table-table.ensures.stops in
     c.minute.ensures
     ∙ ap (λ (vs : List (Visit g.row.S-Exact.Denot)). get_or (minutes vs old) c.args.i 0) lines

@@ -9,5 +9,5 @@ returns g c =
     let to : c.args.place ≤ length (vec_items v) = omega (arith, c.requires.to) in
     record {
       source = refl;
-      altered = change_altered (vec_items v) _ c.args.place c.args.curve c.index-mut-stop.result.now c.requires.from to c.index-mut-stop.ensures.value refl;
+      altered = change_altered (vec_items v) _ c.args.place c.args.curve c.index_mut-stop.result.now c.requires.from to c.index_mut-stop.ensures.value refl;
     }
