@@ -1,5 +1,5 @@
 -- Amounts: whole numbers are a lawful kind of exact costs, of which an amount holds those up to 2^50. Assumes nothing.
-use Rattle.std.specs.Prelude.{◌≡◌, ℕ, ◌+◌, ◌*◌, ◌^◌, ◌≤◌, min, true, false, nat_lt, refl}
+use Rattle.std.specs.Prelude.{◌≡◌, ℕ, ◌+◌, ◌^◌, ◌≤◌, min, true, false, nat_lt, refl}
 use Rattle.std.proofs.Common.{arith, ltb-true, ltb-false, lt-ltb, le-ltb}
 use Rattle.cost.specs.Algebra.{Algebra}
 

@@ -1,6 +1,6 @@
 -- The w-fold of a whole number is its product. Assumes nothing.
 use Rattle.std.specs.Prelude.{◌≡◌, ℕ, zero, suc, ◌+◌, ◌*◌, refl}
-use Rattle.std.proofs.Common.{ap, ◌∙◌, sym, arith, suc-mul, zero-mul}
+use Rattle.std.proofs.Common.{ap, ◌∙◌, arith, suc-mul}
 use Rattle.cost.specs.Algebra.{Algebra, fold}
 use Rattle.cost.specs.Pairs.{paired}
 use Rattle.cost.specs.Amounts.{whole}

@@ -36,7 +36,7 @@ impl Cost<u64> for Amount {
 
     ghost multiple = { λ w a. capped (w * a) };
 
-    ghost summed = { first_of (Prim.search rules, Prim.grind (arith, Self.row.coded.inj)) };
+    ghost summed = { Prim.search rules };
 
     ghost multiplied = { λ w a small h. omega (arith, fold_whole w a) };
 

@@ -2,7 +2,7 @@ ghost use Rattle.std.specs.Prelude.{◌≡◌, ℕ, ◌+◌, ◌^◌, ◌≤◌,
 ghost use Rattle.cost.specs.Texts.{put, left, after, laid, spaced};
 ghost use Rattle.std.proofs.Common.{arith};
 ghost use Rattle.std.proofs.lemmas.Fmt.{length-decimal-le};
-ghost use Rattle.cost.specs.Bytes.{len_spaced};
+ghost use Rattle.cost.specs.Widths.{len_spaced};
 
 use crate::amount::Amount;
 use crate::kind::Cost;

@@ -67,7 +67,7 @@ fn apply_call<S: Source>(
     here: Progress,
 ) -> Result<(), RefusedCall>
     ensures source { route.new.source ≡ route.old.source }
-    ensures spliced { Spliced Kind-as-Cost.algebra (S.Source.meaning route.old.source) route.old.stops.items splice (answer_of result) route.new.stops.items }
+    ensures spliced { Spliced S.Kind.Cost.algebra (S.Source.meaning route.old.source) route.old.stops.items splice (answer_of result) route.new.stops.items }
     ensures told { Told here result }
 {
     match route.apply(splice) {
@@ -84,7 +84,7 @@ fn run_call<S: Source>(
 ) -> Result<Progress, Fault>
     requires { here.count ≤ here.byte }
     ensures source { route.new.source ≡ route.old.source }
-    ensures ran { CallRan Kind-as-Cost.algebra (S.Source.meaning route.old.source) strip.now here route.old.stops.items result route.new.stops.items }
+    ensures ran { CallRan S.Kind.Cost.algebra (S.Source.meaning route.old.source) strip.now here route.old.stops.items result route.new.stops.items }
 {
     match read_call(strip, here.byte, route.stop_count()) {
         Ok((splice, next)) => {
@@ -99,7 +99,7 @@ fn run_call<S: Source>(
 fn run_from<S: Source>(route: &mut Route<S>, strip: &[u8], at: usize) -> Result<usize, Fault>
     requires { at ≤ length strip.now }
     ensures source { route.new.source ≡ route.old.source }
-    ensures ran { Ran Kind-as-Cost.algebra (S.Source.meaning route.old.source) strip.now at route.old.stops.items result route.new.stops.items }
+    ensures ran { Ran S.Kind.Cost.algebra (S.Source.meaning route.old.source) strip.now at route.old.stops.items result route.new.stops.items }
 {
     let mut here = Progress::begin(at);
     while here.byte < strip.len() {
@@ -111,7 +111,7 @@ fn run_from<S: Source>(route: &mut Route<S>, strip: &[u8], at: usize) -> Result<
 // No call begins past the strip's end.
 fn past_end<S: Source>(route: &Route<S>, strip: &[u8], at: usize) -> Result<usize, Fault>
     requires { length strip.now < at }
-    ensures { Ran Kind-as-Cost.algebra (S.Source.meaning route.now.source) strip.now at route.now.stops.items result route.now.stops.items }
+    ensures { Ran S.Kind.Cost.algebra (S.Source.meaning route.now.source) strip.now at route.now.stops.items result route.now.stops.items }
 {
     Err(Progress::begin(at).fault(Cause::CutOff))
 }
@@ -120,7 +120,7 @@ fn past_end<S: Source>(route: &Route<S>, strip: &[u8], at: usize) -> Result<usiz
 // accepted before it stand.
 pub fn run_calls<S: Source>(route: &mut Route<S>, strip: &[u8], at: usize) -> Result<usize, Fault>
     ensures source { route.new.source ≡ route.old.source }
-    ensures ran { Ran Kind-as-Cost.algebra (S.Source.meaning route.old.source) strip.now at route.old.stops.items result route.new.stops.items }
+    ensures ran { Ran S.Kind.Cost.algebra (S.Source.meaning route.old.source) strip.now at route.old.stops.items result route.new.stops.items }
 {
     if at > strip.len() {
         past_end(route, strip, at)

@@ -4,7 +4,7 @@ use borrow.Rule.Slice.PartMut.{put_mid}
 use Rattle.std.proofs.lemmas.List.{append_assoc, take-append-drop, take_more_set, drop-set-lt, drop-drop}
 use Rattle.std.proofs.lemmas.Bool.{cases_lt, cond-false, lt-leb}
 use Rattle.cost.specs.Texts.{put, left, after, laid}
-use Rattle.cost.specs.Bytes.{put_append, left_then, left_stop, after_fits, after_some, after_never, laid_fits}
+use Rattle.cost.proofs.Bytes.{put_append, left_then, left_stop, after_fits, after_some, after_never, laid_fits}
 use Rattle.report.specs.Writing.{Leaves, Writes}
 
 -- bytes written one by one are the part between what stays before and what stays after them

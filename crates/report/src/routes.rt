@@ -19,7 +19,7 @@ const BLANK: Facts = Facts {
 // Reads the facts of all stops into the front of a table, and answers how many stops there are.
 fn read_facts<S: Source>(route: &Route<S>, table: &mut [Facts; 64]) -> usize
     ensures few { result ≤ 64 }
-    ensures read { take result table.new ≡ route_facts Kind-as-Cost.algebra (S.Source.meaning route.now.source) route.now.stops.items }
+    ensures read { take result table.new ≡ route_facts S.Kind.Cost.algebra (S.Source.meaning route.now.source) route.now.stops.items }
 {
     let count = route.stop_count();
     for i in 0..count {

@@ -203,7 +203,7 @@ impl<S: Source> Route<S> {
 
     // Whether the splice is accepted; the route stays.
     pub(crate) fn judge(&self, splice: Splice) -> Result<(), Refusal>
-        ensures judged { Judged Kind-as-Cost.algebra (S.Source.meaning self.now.source) (plains self.now.stops.items) splice result (left result splice (plains self.now.stops.items)) }
+        ensures judged { Judged S.Kind.Cost.algebra (S.Source.meaning self.now.source) (plains self.now.stops.items) splice result (left result splice (plains self.now.stops.items)) }
         ensures free { is_ok result ≡ true → objection (S.Source.meaning self.now.source) (plains self.now.stops.items) splice ≡ None }
     {
         if let Some(refusal) = self.against(splice) {

@@ -116,7 +116,7 @@ impl<A: Source, B: Source<Exact = A::Exact, Kind = A::Kind>> Line for Joined<'_,
 
     type Kind = A::Kind;
 
-    ghost visits = { λ d. visits Kind-as-Cost.algebra (A.Source.meaning d.first.source.now) (drafted d.first.front.now d.first.put d.first.back.now d.first.leg) ++ visits Kind-as-Cost.algebra (B.Source.meaning d.second.source.now) (drafted d.second.front.now d.second.put d.second.back.now d.second.leg) };
+    ghost visits = { λ d. visits A.Kind.Cost.algebra (A.Source.meaning d.first.source.now) (drafted d.first.front.now d.first.put d.first.back.now d.first.leg) ++ visits A.Kind.Cost.algebra (B.Source.meaning d.second.source.now) (drafted d.second.front.now d.second.put d.second.back.now d.second.leg) };
 
     fn count(&self) -> usize {
         self.first.stop_count() + self.second.stop_count()

@@ -15,7 +15,7 @@ use timing::minutes::{least, minute};
 impl<S: Source> Route<S> {
     // The minute of stop i, counted from 0, in the timetable that the marks give.
     fn minute_at(&self, i: usize) -> u16
-        ensures { result ≡ slice_index (timed Kind-as-Cost.algebra (S.Source.meaning self.now.source) self.now.stops.items) i }
+        ensures { result ≡ slice_index (timed S.Kind.Cost.algebra (S.Source.meaning self.now.source) self.now.stops.items) i }
     {
         let marks = load(self.stops.as_slice());
         let table = self.table();
@@ -24,7 +24,7 @@ impl<S: Source> Route<S> {
 
     // What is told of the stop at a place.
     pub fn facts(&self, place: usize) -> Result<Facts, Refusal>
-        ensures { result ≡ facts_at self.now.stops.items (timed Kind-as-Cost.algebra (S.Source.meaning self.now.source) self.now.stops.items) place }
+        ensures { result ≡ facts_at self.now.stops.items (timed S.Kind.Cost.algebra (S.Source.meaning self.now.source) self.now.stops.items) place }
     {
         if is_outside(place, self.stops.len()) {
             return Err(Refusal::Place);

@@ -45,7 +45,7 @@ impl<S: Source> Route<S> {
     // Finds the marks from stop number `from` on anew, counted from 0.
     pub(crate) fn refresh(&mut self, from: usize)
         ensures source { self.new.source ≡ self.old.source }
-        ensures refreshed { Refreshed Kind-as-Cost.algebra (S.Source.meaning self.old.source) from self.old.stops.items self.new.stops.items }
+        ensures refreshed { Refreshed S.Kind.Cost.algebra (S.Source.meaning self.old.source) from self.old.stops.items self.new.stops.items }
     {
         // With the peak comes the promise of the law, by which a mark can be found.
         let _ = self.source.peak();

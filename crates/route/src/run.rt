@@ -19,8 +19,8 @@ fn make_all<S: Source>(
     splices: &[Splice],
 ) -> Result<Vec<Result<(), Refusal>>, AllocError>
     ensures source { route.new.source ≡ route.old.source }
-    ensures runs { IfOk result (λ answers. Runs Kind-as-Cost.algebra (S.Source.meaning route.old.source) (plains route.old.stops.items) splices.now answers.items (plains route.new.stops.items)) }
-    ensures marked { Marked Kind-as-Cost.algebra (S.Source.meaning route.old.source) route.old.stops.items → Marked Kind-as-Cost.algebra (S.Source.meaning route.old.source) route.new.stops.items }
+    ensures runs { IfOk result (λ answers. Runs S.Kind.Cost.algebra (S.Source.meaning route.old.source) (plains route.old.stops.items) splices.now answers.items (plains route.new.stops.items)) }
+    ensures marked { Marked S.Kind.Cost.algebra (S.Source.meaning route.old.source) route.old.stops.items → Marked S.Kind.Cost.algebra (S.Source.meaning route.old.source) route.new.stops.items }
 {
     let mut answers = Vec::new(heap);
     for splice in splices {
@@ -32,7 +32,7 @@ fn make_all<S: Source>(
 
 // The facts of all stops, in order.
 fn all_facts<S: Source>(heap: Global, route: &Route<S>) -> Result<Vec<Facts>, AllocError>
-    ensures { IfOk result (λ facts. Told Kind-as-Cost.algebra (S.Source.meaning route.now.source) route.now.stops.items facts.items) }
+    ensures { IfOk result (λ facts. Told S.Kind.Cost.algebra (S.Source.meaning route.now.source) route.now.stops.items facts.items) }
 {
     let mut all = Vec::new(heap);
     for i in 0..route.count() {

@@ -26,7 +26,7 @@ impl<S: Source> Route<S> {
     // Finds the marks anew after an accepted splice has altered the table: only those from its place on.
     fn settle(&mut self, splice: Splice)
         ensures source { self.new.source ≡ self.old.source }
-        ensures settled { (x : S) (ss : List Stop) → self.old.source ≡ x → Judged Kind-as-Cost.algebra (S.Source.meaning x) (plains ss) splice (Ok tt) (spliced splice (plains ss)) → Altered ss splice self.old.stops.items → Spliced Kind-as-Cost.algebra (S.Source.meaning x) ss splice (Ok tt) self.new.stops.items }
+        ensures settled { (x : S) (ss : List Stop) → self.old.source ≡ x → Judged S.Kind.Cost.algebra (S.Source.meaning x) (plains ss) splice (Ok tt) (spliced splice (plains ss)) → Altered ss splice self.old.stops.items → Spliced S.Kind.Cost.algebra (S.Source.meaning x) ss splice (Ok tt) self.new.stops.items }
     {
         self.refresh(splice.front());
     }
@@ -35,7 +35,7 @@ impl<S: Source> Route<S> {
     fn make(&mut self, splice: Splice)
         requires { objection (S.Source.meaning self.old.source) (plains self.old.stops.items) splice ≡ None }
         ensures source { self.new.source ≡ self.old.source }
-        ensures made { Judged Kind-as-Cost.algebra (S.Source.meaning self.old.source) (plains self.old.stops.items) splice (Ok tt) (spliced splice (plains self.old.stops.items)) → Spliced Kind-as-Cost.algebra (S.Source.meaning self.old.source) self.old.stops.items splice (Ok tt) self.new.stops.items }
+        ensures made { Judged S.Kind.Cost.algebra (S.Source.meaning self.old.source) (plains self.old.stops.items) splice (Ok tt) (spliced splice (plains self.old.stops.items)) → Spliced S.Kind.Cost.algebra (S.Source.meaning self.old.source) self.old.stops.items splice (Ok tt) self.new.stops.items }
     {
         self.alter(splice);
         self.settle(splice);
@@ -44,7 +44,7 @@ impl<S: Source> Route<S> {
     // Makes a splice, or refuses it.
     pub fn apply(&mut self, splice: Splice) -> Result<(), Refusal>
         ensures source { self.new.source ≡ self.old.source }
-        ensures spliced { Spliced Kind-as-Cost.algebra (S.Source.meaning self.old.source) self.old.stops.items splice result self.new.stops.items }
+        ensures spliced { Spliced S.Kind.Cost.algebra (S.Source.meaning self.old.source) self.old.stops.items splice result self.new.stops.items }
     {
         if let Err(refusal) = self.judge(splice) {
             return Err(refusal);
@@ -62,7 +62,7 @@ impl<S: Source> Route<S> {
         leg_out: u16,
     ) -> Result<(), Refusal>
         ensures source { self.new.source ≡ self.old.source }
-        ensures spliced { Spliced Kind-as-Cost.algebra (S.Source.meaning self.old.source) self.old.stops.items (Insert place curve leg_in leg_out) result self.new.stops.items }
+        ensures spliced { Spliced S.Kind.Cost.algebra (S.Source.meaning self.old.source) self.old.stops.items (Insert place curve leg_in leg_out) result self.new.stops.items }
     {
         self.apply(Splice::Insert {
             place,
@@ -75,7 +75,7 @@ impl<S: Source> Route<S> {
     // Takes the stop at a place out; the next one is then reached by `leg`.
     pub fn remove(&mut self, place: usize, leg: u16) -> Result<(), Refusal>
         ensures source { self.new.source ≡ self.old.source }
-        ensures spliced { Spliced Kind-as-Cost.algebra (S.Source.meaning self.old.source) self.old.stops.items (Remove place leg) result self.new.stops.items }
+        ensures spliced { Spliced S.Kind.Cost.algebra (S.Source.meaning self.old.source) self.old.stops.items (Remove place leg) result self.new.stops.items }
     {
         self.apply(Splice::Remove { place, leg })
     }
@@ -83,7 +83,7 @@ impl<S: Source> Route<S> {
     // Puts another curve number on the stop at a place.
     pub fn change(&mut self, place: usize, curve: u8) -> Result<(), Refusal>
         ensures source { self.new.source ≡ self.old.source }
-        ensures spliced { Spliced Kind-as-Cost.algebra (S.Source.meaning self.old.source) self.old.stops.items (Change place curve) result self.new.stops.items }
+        ensures spliced { Spliced S.Kind.Cost.algebra (S.Source.meaning self.old.source) self.old.stops.items (Change place curve) result self.new.stops.items }
     {
         self.apply(Splice::Change { place, curve })
     }

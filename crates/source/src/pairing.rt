@@ -18,7 +18,7 @@ impl<A: Source, B: Source> Pairing<A, B> {
     fn peaks(&self) -> (u64, u64)
         ensures first { result.0 ≡ (A.Source.meaning self.now.first).peak }
         ensures second { result.1 ≡ (B.Source.meaning self.now.second).peak }
-        ensures lawful { Lawful (paired Kind-as-Cost-1.algebra Kind-as-Cost-2.algebra) (pairing (A.Source.meaning self.now.first) (B.Source.meaning self.now.second)) }
+        ensures lawful { Lawful (paired A.Kind.Cost.algebra B.Kind.Cost.algebra) (pairing (A.Source.meaning self.now.first) (B.Source.meaning self.now.second)) }
     {
         (self.first.peak(), self.second.peak())
     }

@@ -3,7 +3,7 @@ use Rattle.std.proofs.Common.{◌≡◌, ℕ, ◌+◌, ◌≤◌, Bool, true, fa
 use Rattle.std.proofs.lemmas.List.{take_more_set}
 use Rattle.std.proofs.lemmas.Bool.{leb-true}
 use Rattle.cost.specs.Texts.{put, laid}
-use Rattle.cost.specs.Bytes.{laid_fits}
+use Rattle.cost.proofs.Bytes.{laid_fits}
 use Rattle.report.specs.declared.refusal.ReportRefusal.{ReportRefusal}
 use Rattle.report.specs.declared.refusal.ReportRefusal.TheVariants.{BufferTooShort}
 use Rattle.report.specs.Refusals.{answer}

@@ -1,6 +1,6 @@
 use Rattle.std.proofs.Common.{sym, arith}
 use Rattle.std.proofs.lemmas.Fmt.{length-decimal-le}
-use Rattle.cost.specs.Bytes.{len_digit, len_step}
+use Rattle.cost.proofs.Bytes.{len_digit, len_step}
 use Rattle.cost.proofs.written.+decimal_width.Goals as goal
 
 pub returns-then-n-lt10 : goal.returns-then-n-lt10

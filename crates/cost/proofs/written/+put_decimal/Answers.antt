@@ -1,6 +1,6 @@
-use Rattle.std.proofs.Common.{◌≡◌, ℕ, ◌+◌, ◌/◌, ◌%◌, List, length, set, decimal, sym, ap, ◌∙◌, arith, rules}
+use Rattle.std.proofs.Common.{ℕ, ◌+◌, ◌/◌, ◌%◌, List, length, set, decimal, ap, ◌∙◌, arith, rules}
 use Rattle.cost.specs.Texts.{put}
-use Rattle.cost.specs.Bytes.{length_put, len_digit, len_step, put_digit, put_step}
+use Rattle.cost.proofs.Bytes.{length_put, len_digit, len_step, put_digit, put_step}
 use Rattle.cost.proofs.written.+put_decimal.Goals as goal
 
 pub bounds-buf-at : goal.bounds-buf-at
@@ -18,8 +18,8 @@ put_decimal-last-requires t c = omega (arith, len_step c.args.n c.if-n-lt10.fals
 pub bounds-buf-last : goal.bounds-buf-last
 bounds-buf-last t c = omega (arith, len_step c.args.n c.if-n-lt10.false (omega arith), ap length c.put_decimal-last.ensures.bytes, length_put (decimal (c.args.n / 10)) c.args.buf.now c.args.at)
 
-pub overflow-add-result-2 : goal.overflow-add-result-2
-overflow-add-result-2 t c = let l = len_step c.args.n c.if-n-lt10.false (omega arith) in search rules
+pub overflow_add-result-2 : goal.overflow_add-result-2
+overflow_add-result-2 t c = let l = len_step c.args.n c.if-n-lt10.false (omega arith) in search rules
 
 pub returns : goal.returns
 returns t c = record {

@@ -1,7 +1,7 @@
 use Rattle.std.proofs.Common.{◌≡◌, ℕ, ◌+◌, ◌-◌, ◌≤◌, List, length, sym, ap, ◌∙◌, arith}
 use borrow.Rule.Slice.PartMut.{put_mid}
 use Rattle.cost.specs.Texts.{put}
-use Rattle.cost.specs.Bytes.{after_fits, length_put}
+use Rattle.cost.proofs.Bytes.{after_fits, length_put}
 use Rattle.report.proofs.Pieces.{put_part}
 use Rattle.report.proofs.words.write_bytes.Goals as goal
 

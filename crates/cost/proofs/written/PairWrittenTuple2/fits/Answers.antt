@@ -1,6 +1,7 @@
-use Rattle.std.proofs.Common.{◌≡◌, ℕ, ◌+◌, length, sym, ap, ◌∙◌, rules}
+use Rattle.std.proofs.Common.{ℕ, ◌+◌, length, sym, ap, ◌∙◌}
 use Rattle.cost.specs.Texts.{left}
-use Rattle.cost.specs.Bytes.{left_stop, left_then, len_spaced}
+use Rattle.cost.proofs.Bytes.{left_stop, left_then}
+use Rattle.cost.specs.Widths.{len_spaced}
 use Rattle.cost.proofs.written.PairWrittenTuple2.fits.Goals as goal
 
 pub returns-in_err-after : goal.returns-in_err-after

@@ -1,6 +1,7 @@
-use Rattle.std.proofs.Common.{◌≡◌, ℕ, ◌+◌, ◌≤◌, not, length, set, sym, ap, ◌∙◌, arith, length-set}
+use Rattle.std.proofs.Common.{◌≡◌, ◌+◌, ◌≤◌, not, length, set, sym, ap, ◌∙◌, arith, length-set}
 use Rattle.cost.specs.Texts.{spaced}
-use Rattle.cost.specs.Bytes.{len_spaced, left_room, after_some, after_never, after_spaced, laid_spaced}
+use Rattle.cost.proofs.Bytes.{left_room, after_some, after_never, after_spaced, laid_spaced}
+use Rattle.cost.specs.Widths.{len_spaced}
 use Rattle.cost.proofs.written.PairWrittenTuple2.write.Goals as goal
 
 pub returns-in_err-space : goal.returns-in_err-space

@@ -1,9 +1,10 @@
 -- Texts written one after another. Assumes nothing.
-use Rattle.std.specs.Prelude.{◌≡◌, ℕ, suc, ◌+◌, ◌-◌, ◌*◌, ◌/◌, ◌%◌, ◌^◌, ◌<◌, ◌≤◌, Bool, true, false, cond, List, [], ◌∷◌, ◌++◌, length, is_some, Some, None, decimal, Option, ◌≢◌, nat_le, slice_set, refl}
-use Rattle.std.proofs.Common.{ap, sym, subst, ◌∙◌, ⊎_elim, arith, add_assoc, add-zero, length-set, length-append}
+use Rattle.std.specs.Prelude.{◌≡◌, ℕ, ◌+◌, ◌-◌, ◌/◌, ◌%◌, ◌^◌, ◌<◌, ◌≤◌, true, false, List, [], ◌∷◌, ◌++◌, length, is_some, Some, None, decimal, Option, ◌≢◌, nat_le, slice_set, refl}
+use Rattle.std.proofs.Common.{ap, sym, ◌∙◌, ⊎_elim, arith, length-set, length-append}
 use Rattle.std.proofs.lemmas.Fmt.{decimal_digit, decimal_step}
 use Rattle.std.proofs.lemmas.Bool.{cases_Bool, both_ways, cond-true, cond-false, leb-true, leb-false, le-leb, lt-leb}
 use Rattle.cost.specs.Texts.{put, left, after, laid, spaced}
+use Rattle.cost.specs.Widths.{len_spaced}
 
 pub length_put : (xs buf : List ℕ) (i : ℕ) → length (put buf i xs) ≡ length buf
 length_put [] buf i = refl
@@ -59,9 +60,6 @@ put_step buf i n h k = sym (ap (put buf i) (decimal_step n h k) ∙ put_append (
 
 pub put_spaced : (xs ys buf : List ℕ) (i : ℕ) → put (slice_set (put buf i xs) (i + length xs) 32) ((i + length xs) + 1) ys ≡ put buf i (spaced xs ys)
 put_spaced xs ys buf i = sym (put_append xs (32 ∷ ys) buf i)
-
-pub len_spaced : (xs ys : List ℕ) → length (spaced xs ys) ≡ (length xs + 1) + length ys
-len_spaced xs ys = simp length-append (omega arith)
 
 pub after_fits : (n at size : ℕ) → at + n ≤ size → after n at size ≡ Some (at + n)
 after_fits n at size h = cond-true (nat_le (at + n) size) (Some (at + n)) None (le-leb (at + n) size h)
