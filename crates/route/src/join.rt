@@ -58,7 +58,7 @@ fn draft_join<'a, A: Source, B: Source<Exact = A::Exact, Kind = A::Kind>>(
 
 // The marks of all stops of a line, with room for those of two routes.
 fn all_marks<L: Line>(line: &L) -> [u16; 128]
-    ensures { Sound L.Kind.Cost.algebra (visits line.now) → Feasible (visits line.now) → length (visits line.now) ≤ 128 → Marks L.Kind.Cost.algebra (visits line.now) (take (length (visits line.now)) result) }
+    ensures { Sound L.Kind.Cost.algebra (L.visits line.now) → Feasible (L.visits line.now) → length (L.visits line.now) ≤ 128 → Marks L.Kind.Cost.algebra (L.visits line.now) (take (length (L.visits line.now)) result) }
 {
     let mut marks = [0; 128];
     refresh(line, &mut marks, 0);

@@ -10,7 +10,7 @@ use Rattle.timing.specs.Convex.{Bends}
 use Rattle.timing.specs.Timetables.{Fits, Timetable, Feasible, bill}
 use Rattle.timing.specs.Best.{Best, BestBy, final}
 use Rattle.timing.specs.Marks.{Mark, Marks}
-use Rattle.timing.specs.Reach.{soon, Reaches}
+use Rattle.timing.specs.Reach.{Reaches}
 use Rattle.timing.specs.Minutes.{minutes, cap, latest}
 use Rattle.timing.proofs.Costs.{most_eq, antisym}
 use Rattle.timing.specs.Back.{Lowest, Within, Early, reach, fill, ending, Marked, top, BackBy, BestBack}

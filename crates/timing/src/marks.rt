@@ -15,7 +15,7 @@ use cost::kind::Cost;
 // What the stops that move with the next one cost, with that one at minute t and at t + 1.
 fn block_cost<L: Line>(line: &L, marks: &[u16], t: u16) -> (L::Kind, L::Kind)
     requires { t < 65535 }
-    ensures { Choice L.Kind.Cost.algebra (visits line.now) marks.now t → (L.Kind.Cost.exact result.0, L.Kind.Cost.exact result.1) ≡ block L.Kind.Cost.algebra (visits line.now) marks.now t }
+    ensures { Choice L.Kind.Cost.algebra (L.visits line.now) marks.now t → (L.Kind.Cost.exact result.0, L.Kind.Cost.exact result.1) ≡ block L.Kind.Cost.algebra (L.visits line.now) marks.now t }
 {
     let mut here = price(line, marks.len(), t);
     let mut later = price(line, marks.len(), t + 1);
@@ -41,7 +41,7 @@ fn at_most<E, K: Cost<E>>(a: K, b: K) -> bool
 // Whether ending at minute t costs at most what ending a minute later costs.
 fn rises<L: Line>(line: &L, marks: &[u16], t: u16) -> bool
     requires { t < 65535 }
-    ensures { Ready L.Kind.Cost.algebra (visits line.now) marks.now → Halves L.Kind.Cost.algebra (visits line.now) marks.now t result }
+    ensures { Ready L.Kind.Cost.algebra (L.visits line.now) marks.now → Halves L.Kind.Cost.algebra (L.visits line.now) marks.now t result }
 {
     let (here, later) = block_cost(line, marks, t);
     at_most(here, later)
@@ -49,7 +49,7 @@ fn rises<L: Line>(line: &L, marks: &[u16], t: u16) -> bool
 
 // The mark of the next stop, which can be reached at `soonest`: found by halving what is left of its window.
 fn mark_from<L: Line>(line: &L, marks: &[u16], soonest: u16) -> u16
-    ensures { Ready L.Kind.Cost.algebra (visits line.now) marks.now → soonest ≡ reached (visits line.now) (length marks.now + 1) → Mark L.Kind.Cost.algebra (visits line.now) (length marks.now) result }
+    ensures { Ready L.Kind.Cost.algebra (L.visits line.now) marks.now → soonest ≡ reached (L.visits line.now) (length marks.now + 1) → Mark L.Kind.Cost.algebra (L.visits line.now) (length marks.now) result }
 {
     let mut low = soonest;
     let mut high = last_minute(line, marks.len());
@@ -66,7 +66,7 @@ fn mark_from<L: Line>(line: &L, marks: &[u16], soonest: u16) -> u16
 
 // The mark of the next stop, where `marks` are those of the stops before it.
 pub fn next_mark<L: Line>(line: &L, marks: &[u16]) -> u16
-    ensures { Ready L.Kind.Cost.algebra (visits line.now) marks.now → Mark L.Kind.Cost.algebra (visits line.now) (length marks.now) result }
+    ensures { Ready L.Kind.Cost.algebra (L.visits line.now) marks.now → Mark L.Kind.Cost.algebra (L.visits line.now) (length marks.now) result }
 {
     let n = marks.len();
     mark_from(line, marks, soonest(line, n, arrival(line, n)))
@@ -76,7 +76,7 @@ pub fn next_mark<L: Line>(line: &L, marks: &[u16]) -> u16
 fn write_mark<L: Line>(line: &L, marks: &mut [u16], i: usize, soonest: u16)
     requires { i < length marks.old }
     ensures others { (k : ℕ) → (k ≢ i) → slice_index marks.new k ≡ slice_index marks.old k }
-    ensures marked { Sound L.Kind.Cost.algebra (visits line.now) → Feasible (visits line.now) → i < length (visits line.now) → soonest ≡ reached (visits line.now) (i + 1) → Marks L.Kind.Cost.algebra (take i (visits line.now)) (take i marks.old) → Marks L.Kind.Cost.algebra (take (i + 1) (visits line.now)) (take (i + 1) marks.new) }
+    ensures marked { Sound L.Kind.Cost.algebra (L.visits line.now) → Feasible (L.visits line.now) → i < length (L.visits line.now) → soonest ≡ reached (L.visits line.now) (i + 1) → Marks L.Kind.Cost.algebra (take i (L.visits line.now)) (take i marks.old) → Marks L.Kind.Cost.algebra (take (i + 1) (L.visits line.now)) (take (i + 1) marks.new) }
 {
     let mark = mark_from(line, &marks[..i], soonest);
     marks[i] = mark;
@@ -85,8 +85,8 @@ fn write_mark<L: Line>(line: &L, marks: &mut [u16], i: usize, soonest: u16)
 // Writes the marks of the stops from number `from` on, as far as there is room; the others stay.
 pub fn refresh<L: Line>(line: &L, marks: &mut [u16], from: usize)
     ensures before { (k : ℕ) → k < from → slice_index marks.new k ≡ slice_index marks.old k }
-    ensures after { (k : ℕ) → length (visits line.now) ≤ k → slice_index marks.new k ≡ slice_index marks.old k }
-    ensures marked { Sound L.Kind.Cost.algebra (visits line.now) → Feasible (visits line.now) → from ≤ length (visits line.now) → length (visits line.now) ≤ length marks.old → Marks L.Kind.Cost.algebra (take from (visits line.now)) (take from marks.old) → Marks L.Kind.Cost.algebra (visits line.now) (take (length (visits line.now)) marks.new) }
+    ensures after { (k : ℕ) → length (L.visits line.now) ≤ k → slice_index marks.new k ≡ slice_index marks.old k }
+    ensures marked { Sound L.Kind.Cost.algebra (L.visits line.now) → Feasible (L.visits line.now) → from ≤ length (L.visits line.now) → length (L.visits line.now) ≤ length marks.old → Marks L.Kind.Cost.algebra (take from (L.visits line.now)) (take from marks.old) → Marks L.Kind.Cost.algebra (L.visits line.now) (take (length (L.visits line.now)) marks.new) }
 {
     let mut ready = arrival(line, from);
     for i in from..line.count().min(marks.len()) {

@@ -7,7 +7,7 @@ use crate::line::Line;
 
 // The soonest minute of stop i, where the stop before it is left at minute `ready`; absent past its window.
 fn serve<L: Line>(line: &L, i: usize, ready: u16) -> Option<u16>
-    ensures { result ≡ served ready (at L.Kind.Cost.algebra (visits line.now) i) }
+    ensures { result ≡ served ready (at L.Kind.Cost.algebra (L.visits line.now) i) }
 {
     let (first, last) = line.window(i)?;
     let soonest = (ready as u32 + line.leg(i) as u32).max(first as u32);
@@ -19,8 +19,8 @@ fn serve<L: Line>(line: &L, i: usize, ready: u16) -> Option<u16>
 
 // How many stops can be served, from the first on.
 fn served_count<L: Line>(line: &L) -> usize
-    ensures all { length (visits line.now) ≤ result → Feasible (visits line.now) }
-    ensures part { result < length (visits line.now) → BlockedAt (visits line.now) (result + 1) }
+    ensures all { length (L.visits line.now) ≤ result → Feasible (L.visits line.now) }
+    ensures part { result < length (L.visits line.now) → BlockedAt (L.visits line.now) (result + 1) }
 {
     let mut ready = 0;
     for i in 0..line.count() {
@@ -34,7 +34,7 @@ fn served_count<L: Line>(line: &L) -> usize
 
 // The number, from 1, of the first stop up to which no timetable exists.
 pub fn first_blocked<L: Line>(line: &L) -> Option<usize>
-    ensures { Blocked (visits line.now) result }
+    ensures { Blocked (L.visits line.now) result }
 {
     let served = served_count(line);
     if served < line.count() {
@@ -46,7 +46,7 @@ pub fn first_blocked<L: Line>(line: &L) -> Option<usize>
 
 // The first minute of the window of stop i; an absent window is the empty one, from 1 to 0.
 fn first_minute<L: Line>(line: &L, i: usize) -> u16
-    ensures { result ≡ (at L.Kind.Cost.algebra (visits line.now) i).first }
+    ensures { result ≡ (at L.Kind.Cost.algebra (L.visits line.now) i).first }
 {
     match line.window(i) {
         Some((first, _)) => first,
@@ -56,7 +56,7 @@ fn first_minute<L: Line>(line: &L, i: usize) -> u16
 
 // The last one.
 pub(crate) fn last_minute<L: Line>(line: &L, i: usize) -> u16
-    ensures { result ≡ (at L.Kind.Cost.algebra (visits line.now) i).last }
+    ensures { result ≡ (at L.Kind.Cost.algebra (L.visits line.now) i).last }
 {
     match line.window(i) {
         Some((_, last)) => last,
@@ -66,14 +66,14 @@ pub(crate) fn last_minute<L: Line>(line: &L, i: usize) -> u16
 
 // The soonest minute of stop i, where the stop before it is left at minute `ready`, as far as 16 bits count.
 pub(crate) fn soonest<L: Line>(line: &L, i: usize, ready: u16) -> u16
-    ensures { i < length (visits line.now) → ready ≡ reached (visits line.now) i → result ≡ reached (visits line.now) (i + 1) }
+    ensures { i < length (L.visits line.now) → ready ≡ reached (L.visits line.now) i → result ≡ reached (L.visits line.now) (i + 1) }
 {
     first_minute(line, i).max(ready.saturating_add(line.leg(i)))
 }
 
 // The soonest minute of the last of the first n stops, as far as 16 bits count.
 pub(crate) fn arrival<L: Line>(line: &L, n: usize) -> u16
-    ensures { result ≡ reached (visits line.now) n }
+    ensures { result ≡ reached (L.visits line.now) n }
 {
     let mut ready = 0;
     for i in 0..n.min(line.count()) {

@@ -6,7 +6,7 @@ use Rattle.route.specs.Calls.{blank, facts_of, facts_at, timed}
 use Rattle.report.specs.Routes.{route_facts}
 use Rattle.report.proofs.Told.{all_length, read_next, copied_more}
 use Rattle.report.proofs.routes.read_facts.Goals as goal
-use Rattle.report.proofs.routes.read_facts.Goals.{in-Ok, in-default}
+use Rattle.report.proofs.routes.read_facts.Goals.{in-Ok, in_default}
 
 pub loop-i-preserved : goal.loop-i-preserved
 loop-i-preserved g c =
@@ -25,7 +25,7 @@ loop-i-preserved g c =
           let got : Ok stop ≡ Ok (get_or fs i stop) = w.in-Ok.ensures ∙ next stop in
           let same : stop ≡ get_or fs i stop = cc in
           (c.match-facts.array_long, ap (take (i + 1)) w.table-is ∙ copied_more c.loop-i.table fs i stop stop (omega arith) (omega arith) same c.loop-i.invariant.1)
-      | in-default w ↦ absurd (w.in-default.not-Ok (get_or fs i (facts_of blank 0)) (c.facts.ensures ∙ next (facts_of blank 0)))
+      | in_default w ↦ absurd (w.in_default.not-Ok (get_or fs i (facts_of blank 0)) (c.facts.ensures ∙ next (facts_of blank 0)))
     ]
 
 pub returns : goal.returns

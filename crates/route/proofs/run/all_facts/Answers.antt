@@ -5,7 +5,7 @@ use Rattle.route.specs.Table.{plain}
 use Rattle.route.specs.Calls.{timed}
 use Rattle.route.proofs.Runnings.{TellsTo, tells_more, tells_all, length_timed, facts_there}
 use Rattle.route.proofs.run.all_facts.Goals as goal
-use Rattle.route.proofs.run.all_facts.Goals.{in-Ok+in_ok-push, in-default}
+use Rattle.route.proofs.run.all_facts.Goals.{in-Ok+in_ok-push, in_default}
 
 pub loop-i-preserved : goal.loop-i-preserved
 loop-i-preserved g c =
@@ -22,7 +22,7 @@ loop-i-preserved g c =
       | in-Ok+in_ok-push w ↦
           tells_more ss ts (vec_items c.loop-i.all) (vec_items c.match-facts.all) w.in-Ok.facts i h k w.in-Ok.ensures
           (ap vec_items w.all-is ∙ chosen _ _ _ _ w.push.ensures.items (ap is_ok w.in_ok-push.was)) c.loop-i.invariant
-      | in-default w ↦ absurd (w.in-default.not-Ok _ (c.facts.ensures ∙ facts_there ss ts i h))
+      | in_default w ↦ absurd (w.in_default.not-Ok _ (c.facts.ensures ∙ facts_there ss ts i h))
     ] in
     goal
 

@@ -25,7 +25,7 @@ returns g c =
     found_all g.S.Kind.Cost.algebra m.peak (m.curve c.args.curve) c.args.first c.args.last c.loop-minute.minute (exactly g.S.Kind.Cost.exact c.loop-minute.best)
     (c.peak.ensures.lawful.sound c.args.curve) c.requires c.loop-minute-test.false c.loop-minute.invariant
 
-pub returns-2 : goal.returns·2
+pub returns-2 : goal.returns-2
 returns-2 g c =
     let K = g.S.Kind.Cost.algebra in
     let exact = g.S.Kind.Cost.exact in

@@ -2,13 +2,13 @@ use Rattle.std.proofs.Common.{arith}
 use Rattle.timing.proofs.Arrivals.{serves_on, blocked_here, all_served}
 use Rattle.timing.proofs.reach.served_count.Goals as goal
 
-pub returns-in-default : goal.returns-in-default
-returns-in-default g c =
+pub returns-in_default : goal.returns-in_default
+returns-in_default g c =
     let vs = g.L.Line.visits c.args.line.now in
     let i = c.loop-i.i in
     record {
       all = λ h. absurd (omega arith);
-      part = λ h. blocked_here g.L.Kind.Cost.algebra vs i h c.loop-i.ready c.loop-i.invariant.0 c.loop-i.invariant.1 c.in-default.ensures;
+      part = λ h. blocked_here g.L.Kind.Cost.algebra vs i h c.loop-i.ready c.loop-i.invariant.0 c.loop-i.invariant.1 c.in_default.ensures;
     }
 
 pub loop-i-preserved : goal.loop-i-preserved

@@ -36,11 +36,11 @@ least_joined-requires g c =
 
 pub returns-in-Some-first_blocked : goal.returns-in-Some-first_blocked
 returns-in-Some-first_blocked g c =
-    blocked c.in-Some-first_blocked.stop (told g (goal.at.returns-in-Some-first_blocked g c).After-against_join _ c.in-default.ensures)
+    blocked c.in-Some-first_blocked.stop (told g (goal.at.returns-in-Some-first_blocked g c).After-against_join _ c.in_default.ensures)
     (subst (λ (vs : List (Visit g.row.A-Exact.Denot)). BlockedAt vs c.in-Some-first_blocked.stop) (same g (goal.at.returns-in-Some-first_blocked g c).After-draft_join-line) c.in-Some-first_blocked.ensures)
 
 pub returns-in-None : goal.returns-in-None
 returns-in-None g c =
     let x = g.A.Kind.Cost.exact c.least_joined.result in
-    accepted x (told g (goal.at.returns-in-None g c).After-against_join _ c.in-default.ensures)
+    accepted x (told g (goal.at.returns-in-None g c).After-against_join _ c.in_default.ensures)
     (subst (λ (vs : List (Visit g.row.A-Exact.Denot)). Least g.A.Kind.Cost.algebra vs x) (same g (goal.at.returns-in-None g c).After-draft_join-line) (c.least_joined.ensures c.in-None.ensures))

@@ -29,12 +29,12 @@ returns-in-Some g c = record {
 
 pub returns-in-Some-first_blocked : goal.returns-in-Some-first_blocked
 returns-in-Some-first_blocked g c = record {
-  judged = blocked c.in-Some-first_blocked.stop (sym c.in-default.ensures) (subst (λ (vs : List (Visit g.row.S-Exact.Denot)). BlockedAt vs c.in-Some-first_blocked.stop) (same-is g (goal.at.returns-in-Some-first_blocked g c).After-draft-draft) c.in-Some-first_blocked.ensures);
+  judged = blocked c.in-Some-first_blocked.stop (sym c.in_default.ensures) (subst (λ (vs : List (Visit g.row.S-Exact.Denot)). BlockedAt vs c.in-Some-first_blocked.stop) (same-is g (goal.at.returns-in-Some-first_blocked g c).After-draft-draft) c.in-Some-first_blocked.ensures);
   free = λ e. absurd (let z : ◌≡◌ {A = ℕ} 0 1 = cc in omega arith);
 }
 
 pub returns-in-None : goal.returns-in-None
 returns-in-None g c = record {
-  judged = accepted (sym c.in-default.ensures) (subst (λ (vs : List (Visit g.row.S-Exact.Denot)). Feasible vs) (same-is g (goal.at.returns-in-None g c).After-draft-draft) c.in-None.ensures);
-  free = λ e. sym c.in-default.ensures;
+  judged = accepted (sym c.in_default.ensures) (subst (λ (vs : List (Visit g.row.S-Exact.Denot)). Feasible vs) (same-is g (goal.at.returns-in-None g c).After-draft-draft) c.in-None.ensures);
+  free = λ e. sym c.in_default.ensures;
 }

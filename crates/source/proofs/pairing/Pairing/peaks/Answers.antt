@@ -6,5 +6,5 @@ pub returns : goal.returns
 returns g c = record {
   first = search rules;
   second = search rules;
-  lawful = pairing_lawful g.Kind-as-Cost-1.algebra g.Kind-as-Cost-2.algebra _ _ c.peak.ensures.lawful c.peak-2.ensures.lawful;
+  lawful = pairing_lawful g.A.Kind.Cost.algebra g.B.Kind.Cost.algebra _ _ c.peak.ensures.lawful c.peak-2.ensures.lawful;
 }
