@@ -7,4 +7,4 @@ use Rattle.reader.proofs.calls.past_end.Goals as goal
 
 pub returns : goal.returns
 returns g c =
-    past_end g.Kind.Cost.algebra (g.S.Source.meaning c.args.route.now.source) c.args.strip.now c.args.at (vec_items c.args.route.now.stops) c.fault.result c.requires (c.fault.ensures ∙ ap (λ (p : Progress). fault_of p CutOff) c.begin.ensures)
+    past_end g.S.Kind.Cost.algebra (g.S.Source.meaning c.args.route.now.source) c.args.strip.now c.args.at (vec_items c.args.route.now.stops) c.fault.result c.requires (c.fault.ensures ∙ ap (λ (p : Progress). fault_of p CutOff) c.begin.ensures)

@@ -18,7 +18,7 @@ read_call-requires g c =
 pub returns-in_err-apply_call : goal.returns-in_err-apply_call
 returns-in_err-apply_call g c =
     let told = err_from_is_err_and c.from_residual.result c.from_residual.ensures.1 in
-    let K = g.Kind.Cost.algebra in
+    let K = g.S.Kind.Cost.algebra in
     let M = g.S.Source.meaning c.args.route.now.source in
     record {
       source = c.apply_call.ensures.source;
@@ -31,7 +31,7 @@ returns-in_err-apply_call g c =
 
 pub returns-in_ok-apply_call : goal.returns-in_ok-apply_call
 returns-in_ok-apply_call g c =
-    let K = g.Kind.Cost.algebra in
+    let K = g.S.Kind.Cost.algebra in
     let M = g.S.Source.meaning c.args.route.now.source in
     record {
       source = c.apply_call.ensures.source;
@@ -47,7 +47,7 @@ returns-in-Err g c =
     record {
       source = refl;
       ran = record {
-        call = wrong_call g.Kind.Cost.algebra (g.S.Source.meaning c.args.route.now.source) c.args.strip.now c.args.here (plains (vec_items c.args.route.now.stops)) c.stop_count.result c.in-Err.cause c.fault.result c.stop_count.ensures c.in-Err.ensures c.fault.ensures;
+        call = wrong_call g.S.Kind.Cost.algebra (g.S.Source.meaning c.args.route.now.source) c.args.strip.now c.args.here (plains (vec_items c.args.route.now.stops)) c.stop_count.result c.in-Err.cause c.fault.result c.stop_count.ensures c.in-Err.ensures c.fault.ensures;
         marked = λ h. h;
         stays = λ _. refl;
       };

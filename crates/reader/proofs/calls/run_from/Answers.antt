@@ -8,9 +8,9 @@ use Rattle.reader.proofs.calls.run_from.Goals as goal
 -- a turn after which running goes on
 turned : (g : given.Over) (c : goal.In_ok-here g)
     → Further c.args.strip.now c.loop-here.here c.in_ok-here.here
-    × Onward g.Kind.Cost.algebra (g.S.Source.meaning c.args.route.now.source) c.args.strip.now c.args.at (vec_items c.args.route.now.stops) c.in_ok-here.here (vec_items c.run_call.new.route.stops)
+    × Onward g.S.Kind.Cost.algebra (g.S.Source.meaning c.args.route.now.source) c.args.strip.now c.args.at (vec_items c.args.route.now.stops) c.in_ok-here.here (vec_items c.run_call.new.route.stops)
 turned g c =
-    let K = g.Kind.Cost.algebra in
+    let K = g.S.Kind.Cost.algebra in
     let M = g.S.Source.meaning in
     let bytes = c.args.strip.now in
     let before = vec_items c.args.route.now.stops in
@@ -28,7 +28,7 @@ turned g c =
 
 pub returns-in_err-here : goal.returns-in_err-here
 returns-in_err-here g c =
-    let K = g.Kind.Cost.algebra in
+    let K = g.S.Kind.Cost.algebra in
     let M = g.S.Source.meaning in
     let bytes = c.args.strip.now in
     let before = vec_items c.args.route.now.stops in
@@ -59,5 +59,5 @@ loop-here-preserved g c =
 pub returns : goal.returns
 returns g c = record {
   source = c.loop-here.invariant.2;
-  ran = last_turn g.Kind.Cost.algebra (g.S.Source.meaning c.args.route.now.source) c.args.strip.now c.args.at (vec_items c.args.route.now.stops) c.loop-here.here (vec_items c.loop-here.route.stops) c.loop-here.invariant.3 (omega arith);
+  ran = last_turn g.S.Kind.Cost.algebra (g.S.Source.meaning c.args.route.now.source) c.args.strip.now c.args.at (vec_items c.args.route.now.stops) c.loop-here.here (vec_items c.loop-here.route.stops) c.loop-here.invariant.3 (omega arith);
 }

@@ -11,7 +11,7 @@ use Rattle.report.proofs.routes.read_facts.Goals.{in-Ok, in_default}
 pub loop-i-preserved : goal.loop-i-preserved
 loop-i-preserved g c =
     let ss = vec_items c.args.route.now.stops in
-    let K = g.Kind.Cost.algebra in
+    let K = g.S.Kind.Cost.algebra in
     let m = g.S.Source.meaning c.args.route.now.source in
     let fs = route_facts K m ss in
     let i = c.loop-i.i in
@@ -31,8 +31,8 @@ loop-i-preserved g c =
 pub returns : goal.returns
 returns g c =
     let ss = vec_items c.args.route.now.stops in
-    let fs = route_facts g.Kind.Cost.algebra (g.S.Source.meaning c.args.route.now.source) ss in
-    let size = all_length g.Kind.Cost.algebra (g.S.Source.meaning c.args.route.now.source) ss in
+    let fs = route_facts g.S.Kind.Cost.algebra (g.S.Source.meaning c.args.route.now.source) ss in
+    let size = all_length g.S.Kind.Cost.algebra (g.S.Source.meaning c.args.route.now.source) ss in
     let many = length-map ss plain in
     let ended : c.stop_count-count.result ≡ c.loop-i.i = omega arith in
     record {

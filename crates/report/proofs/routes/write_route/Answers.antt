@@ -11,11 +11,11 @@ use Rattle.report.proofs.routes.write_route.Goals as goal
 pub returns : goal.returns
 returns g c = λ e.
     let ss = vec_items c.args.route.now.stops in
-    let K = g.Kind.Cost.algebra in
+    let K = g.S.Kind.Cost.algebra in
     let m = g.S.Source.meaning c.args.route.now.source in
     let buf = c.args.buf.now in
-    let cost = g.Kind.Cost.exact c.least_cost.result in
-    let text = g.Kind.Written.text cost in
+    let cost = g.S.Kind.Cost.exact c.least_cost.result in
+    let text = g.S.Kind.Written.text cost in
     let few : length ss ≤ 64 = omega arith in
     let law = c.least_cost.ensures.lawful in
     record {
@@ -25,7 +25,7 @@ returns g c = λ e.
       answered = c.write_report.ensures.answer ∙ ap (λ (fs : List Facts). answer (length (report_text fs text)) (length buf)) e;
       bytes = c.write_report.ensures.bytes ∙ ap (λ (fs : List Facts). laid buf 0 (report_text fs text)) e;
       bound = λ marked.
-          subst (λ (fs : List Facts). Bounded fs (K.size cost) text g.Kind.Written.longest) e c.write_report.ensures.bound
+          subst (λ (fs : List Facts). Bounded fs (K.size cost) text g.S.Kind.Written.longest) e c.write_report.ensures.bound
           (omega (arith, all_length K m ss))
           (route_ordinary K m law ss few marked)
           (least_small K m law ss few cost (c.least_cost.ensures.least marked));

@@ -9,7 +9,7 @@ use Rattle.route.proofs.run.all_facts.Goals.{in-Ok+in_ok-push, in_default}
 
 pub loop-i-preserved : goal.loop-i-preserved
 loop-i-preserved g c =
-    let K = g.Kind.Cost.algebra in
+    let K = g.S.Kind.Cost.algebra in
     let r = c.args.route.now in
     let m = g.S.Source.meaning r.source in
     let ss = vec_items r.stops in
@@ -31,4 +31,4 @@ returns g c =
     let r = c.args.route.now in
     let ss = vec_items r.stops in
     let h : length ss ≤ c.loop-i.i = omega (arith, c.loop-i-test.false, c.count-i-end.ensures.value, length-map ss plain) in
-    tells_all g.Kind.Cost.algebra (g.S.Source.meaning r.source) ss (vec_items c.loop-i.all) c.loop-i.i h c.loop-i.invariant
+    tells_all g.S.Kind.Cost.algebra (g.S.Source.meaning r.source) ss (vec_items c.loop-i.all) c.loop-i.i h c.loop-i.invariant

@@ -9,4 +9,4 @@ invariant-loop-i g l =
     let ss = vec_items l.route.stops in
     (map told (vec_items l.all) ≡ take l.i (plains ss))
     × (map told_mark (vec_items l.all) ≡ take l.i (marks ss))
-    × (map told_minute (vec_items l.all) ≡ take l.i (timed g.Kind.Cost.algebra (g.S.Source.meaning l.route.source) ss))
+    × (map told_minute (vec_items l.all) ≡ take l.i (timed g.S.Kind.Cost.algebra (g.S.Source.meaning l.route.source) ss))

@@ -9,7 +9,7 @@ use Rattle.route.proofs.run.make_all.Goals as goal
 
 pub loop-splice-preserved : goal.loop-splice-preserved
 loop-splice-preserved g c =
-    let K = g.Kind.Cost.algebra in
+    let K = g.S.Kind.Cost.algebra in
     let M = g.S.Source.meaning in
     let x = c.args.route.now.source in
     let i = c.loop-splice.splice-index in
@@ -26,7 +26,7 @@ loop-splice-preserved g c =
 
 pub returns : goal.returns
 returns g c =
-    let K = g.Kind.Cost.algebra in
+    let K = g.S.Kind.Cost.algebra in
     let m = g.S.Source.meaning c.args.route.now.source in
     let i = c.loop-splice.splice-index in
     let h = c.args.splices.now in

@@ -8,8 +8,8 @@ use Rattle.strip_report.proofs.shown.report_bytes.Goals as goal
 
 pub returns : goal.returns
 returns g c =
-    let K = g.Kind.Cost.algebra in
-    let text = g.Kind.Written.text in
+    let K = g.S.Kind.Cost.algebra in
+    let text = g.S.Kind.Written.text in
     let m = g.S.Source.meaning c.args.route.now.source in
     let ss = vec_items c.args.route.now.stops in
     let told = c.in-Ok.ensures in

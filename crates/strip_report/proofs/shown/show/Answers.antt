@@ -4,7 +4,7 @@ use Rattle.strip_report.proofs.shown.show.Goals as goal
 
 pub returns : goal.returns
 returns g c =
-    shows g.Kind.Cost.algebra g.Kind.Written.text g.S.Source.meaning c.args.source c.args.strip.now c.args.from
+    shows g.S.Kind.Cost.algebra g.S.Kind.Written.text g.S.Source.meaning c.args.source c.args.strip.now c.args.from
     c.in_ok-route.route.source
     c.run_calls-ended.new.route.source
     (vec_items c.in_ok-route.route.stops)

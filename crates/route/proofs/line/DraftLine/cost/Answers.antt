@@ -9,13 +9,13 @@ pub returns-in_err-stop : goal.returns-in_err-stop
 returns-in_err-stop g c =
     let d = c.args.self.now in
     let m = g.S.Source.meaning d.source.now in
-    ap (option_map g.Kind-as-Cost.exact) c.from_residual.ensures ∙ price_nowhere g.Kind-as-Cost.algebra m c.args.minute
-    ∙ sym (ap (λ v. asked v c.args.minute) (at_place g.Kind-as-Cost.algebra m (drafted d.front.now d.put d.back.now d.leg) c.args.i _ c.in_err-stop.ensures))
+    ap (option_map g.S.Kind.Cost.exact) c.from_residual.ensures ∙ price_nowhere g.S.Kind.Cost.algebra m c.args.minute
+    ∙ sym (ap (λ v. asked v c.args.minute) (at_place g.S.Kind.Cost.algebra m (drafted d.front.now d.put d.back.now d.leg) c.args.i _ c.in_err-stop.ensures))
 
 pub returns : goal.returns
 returns g c =
     let d = c.args.self.now in
     let m = g.S.Source.meaning d.source.now in
     let s = c.in_ok-stop.stop in
-    c.cost.ensures ∙ price_visit g.Kind-as-Cost.algebra m (m.curve s.curve) s.leg c.args.minute
-    ∙ sym (ap (λ v. asked v c.args.minute) (at_place g.Kind-as-Cost.algebra m (drafted d.front.now d.put d.back.now d.leg) c.args.i _ c.in_ok-stop.ensures))
+    c.cost.ensures ∙ price_visit g.S.Kind.Cost.algebra m (m.curve s.curve) s.leg c.args.minute
+    ∙ sym (ap (λ v. asked v c.args.minute) (at_place g.S.Kind.Cost.algebra m (drafted d.front.now d.put d.back.now d.leg) c.args.i _ c.in_ok-stop.ensures))

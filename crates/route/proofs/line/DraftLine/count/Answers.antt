@@ -7,4 +7,4 @@ use Rattle.route.proofs.line.DraftLine.count.Goals as goal
 pub returns : goal.returns
 returns g c =
     let d = c.args.self.now in
-    c.stop_count.ensures.value ∙ sym (length-map (drafted d.front.now d.put d.back.now d.leg) (seen g.Kind-as-Cost.algebra (g.S.Source.meaning d.source.now)))
+    c.stop_count.ensures.value ∙ sym (length-map (drafted d.front.now d.put d.back.now d.leg) (seen g.S.Kind.Cost.algebra (g.S.Source.meaning d.source.now)))

@@ -7,9 +7,9 @@ pub returns-in-Some : goal.returns-in-Some
 returns-in-Some g c =
     let d = c.args.self.now in
     let m = g.S.Source.meaning d.source.now in
-    sym (ap (λ v. v.leg) (at_place g.Kind-as-Cost.algebra m (drafted d.front.now d.put d.back.now d.leg) c.args.i _ c.in-Some.ensures) ∙ leg_visit g.Kind-as-Cost.algebra m (m.curve c.in-Some.stop.curve) c.in-Some.stop.leg)
+    sym (ap (λ v. v.leg) (at_place g.S.Kind.Cost.algebra m (drafted d.front.now d.put d.back.now d.leg) c.args.i _ c.in-Some.ensures) ∙ leg_visit g.S.Kind.Cost.algebra m (m.curve c.in-Some.stop.curve) c.in-Some.stop.leg)
 
 pub returns-in-None : goal.returns-in-None
 returns-in-None g c =
     let d = c.args.self.now in
-    sym (ap (λ v. v.leg) (at_place g.Kind-as-Cost.algebra (g.S.Source.meaning d.source.now) (drafted d.front.now d.put d.back.now d.leg) c.args.i _ c.in-None.ensures))
+    sym (ap (λ v. v.leg) (at_place g.S.Kind.Cost.algebra (g.S.Source.meaning d.source.now) (drafted d.front.now d.put d.back.now d.leg) c.args.i _ c.in-None.ensures))

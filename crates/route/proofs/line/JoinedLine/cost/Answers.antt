@@ -9,11 +9,11 @@ returns-then-i-first g c =
     let d = c.args.self.now in
     let a = d.first in
     let b = d.second in
-    c.cost.ensures ∙ ap (λ v. asked v c.args.minute) (at_first g.Kind-as-Cost.algebra (g.A.Source.meaning a.source.now) (g.B.Source.meaning b.source.now) (drafted a.front.now a.put a.back.now a.leg) (drafted b.front.now b.put b.back.now b.leg) c.stop_count-first.result c.args.i c.stop_count-first.ensures.value c.if-i-first.true)
+    c.cost.ensures ∙ ap (λ v. asked v c.args.minute) (at_first g.A.Kind.Cost.algebra (g.A.Source.meaning a.source.now) (g.B.Source.meaning b.source.now) (drafted a.front.now a.put a.back.now a.leg) (drafted b.front.now b.put b.back.now b.leg) c.stop_count-first.result c.args.i c.stop_count-first.ensures.value c.if-i-first.true)
 
 pub returns-else-i-first : goal.returns-else-i-first
 returns-else-i-first g c =
     let d = c.args.self.now in
     let a = d.first in
     let b = d.second in
-    c.cost-else-i-first.ensures ∙ ap (λ v. asked v c.args.minute) (at_second g.Kind-as-Cost.algebra (g.A.Source.meaning a.source.now) (g.B.Source.meaning b.source.now) (drafted a.front.now a.put a.back.now a.leg) (drafted b.front.now b.put b.back.now b.leg) c.stop_count-first.result c.args.i c.stop_count-first.ensures.value c.if-i-first.false)
+    c.cost-else-i-first.ensures ∙ ap (λ v. asked v c.args.minute) (at_second g.A.Kind.Cost.algebra (g.A.Source.meaning a.source.now) (g.B.Source.meaning b.source.now) (drafted a.front.now a.put a.back.now a.leg) (drafted b.front.now b.put b.back.now b.leg) c.stop_count-first.result c.args.i c.stop_count-first.ensures.value c.if-i-first.false)

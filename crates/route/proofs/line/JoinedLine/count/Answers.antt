@@ -7,4 +7,4 @@ pub returns : goal.returns
 returns g c =
     let a = c.args.self.now.first in
     let b = c.args.self.now.second in
-    omega (arith, c.stop_count.ensures.value, c.stop_count-2.ensures.value, length_joined g.Kind-as-Cost.algebra (g.A.Source.meaning a.source.now) (g.B.Source.meaning b.source.now) (drafted a.front.now a.put a.back.now a.leg) (drafted b.front.now b.put b.back.now b.leg))
+    omega (arith, c.stop_count.ensures.value, c.stop_count-2.ensures.value, length_joined g.A.Kind.Cost.algebra (g.A.Source.meaning a.source.now) (g.B.Source.meaning b.source.now) (drafted a.front.now a.put a.back.now a.leg) (drafted b.front.now b.put b.back.now b.leg))

@@ -23,10 +23,10 @@ put-requires g c =
     let h = free g (goal.at.put-requires g c).In-Insert in
     record { from = h.0; to = h.1; room = omega (arith, h.2, c.args.self.now.room) }
 
-pub invariant-of-self : goal.invariant-of-self
-invariant-of-self g c =
-    let h = free g (goal.at.invariant-of-self g c).In-Insert in
-    (omega (arith, h.2, c.put.ensures.len), (omega (arith, c.put.ensures.capacity, c.args.self.now.room), tt))
+pub invariant_of-self : goal.invariant_of-self
+invariant_of-self g c =
+    let h = free g (goal.at.invariant_of-self g c).In-Insert in
+    record { few = omega (arith, h.2, c.put.ensures.len); room = omega (arith, c.put.ensures.capacity, c.args.self.now.room) }
 
 pub take_out-requires : goal.take_out-requires
 take_out-requires g c =

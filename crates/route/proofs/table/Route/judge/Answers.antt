@@ -16,10 +16,10 @@ abbrev same : (g : given.Over) (c : After-draft-draft g) → Type 0
 same g c =
     let r = c.args.self.now in
     let d = c.draft-draft.result in
-    visits g.Kind.Cost.algebra (g.S.Source.meaning d.source.now) (drafted d.front.now d.put d.back.now d.leg) ≡ visits g.Kind.Cost.algebra (g.S.Source.meaning r.source) (spliced c.args.splice (plains (vec_items r.stops)))
+    visits g.S.Kind.Cost.algebra (g.S.Source.meaning d.source.now) (drafted d.front.now d.put d.back.now d.leg) ≡ visits g.S.Kind.Cost.algebra (g.S.Source.meaning r.source) (spliced c.args.splice (plains (vec_items r.stops)))
 
 same-is : (g : given.Over) (c : After-draft-draft g) → same g c
-same-is g c = same_line g.Kind.Cost.algebra g.S.Source.meaning _ _ _ _ c.draft-draft.ensures.source c.draft-draft.ensures.stops
+same-is g c = same_line g.S.Kind.Cost.algebra g.S.Source.meaning _ _ _ _ c.draft-draft.ensures.source c.draft-draft.ensures.stops
 
 pub returns-in-Some : goal.returns-in-Some
 returns-in-Some g c = record {

@@ -9,7 +9,7 @@ use Rattle.route.proofs.table.Route.minute_at.Goals as goal
 
 pub returns : goal.returns
 returns g c =
-    let K = g.Kind.Cost.algebra in
+    let K = g.S.Kind.Cost.algebra in
     let r = c.args.self.now in
     let ss = vec_items r.stops in
     let old = c.load-marks.result in

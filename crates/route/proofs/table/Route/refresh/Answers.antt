@@ -13,7 +13,7 @@ use Rattle.route.proofs.table.Route.refresh.Goals as goal
 
 pub returns : goal.returns
 returns g c =
-    let K = g.Kind.Cost.algebra in
+    let K = g.S.Kind.Cost.algebra in
     let r = c.args.self.now in
     let m = g.S.Source.meaning r.source in
     let us = vec_items r.stops in

@@ -6,7 +6,7 @@ use Rattle.route.proofs.table.Route.settle.Goals as goal
 
 pub returns : goal.returns
 returns g c =
-    let K = g.Kind.Cost.algebra in
+    let K = g.S.Kind.Cost.algebra in
     let M = g.S.Source.meaning in
     let s = c.args.splice in
     let us = vec_items c.args.self.now.stops in
