@@ -1,14 +1,13 @@
 -- Tests that a computation can make of stops and marks written out, and what they show.
-use Rattle.std.proofs.Common.{◌≡◌, ℕ, ◌+◌, ◌-◌, ◌≤◌, Bool, true, false, not, ◌&&◌, ◌||◌, eqb, leb, ◌⊎◌, List, [], ◌∷◌, reverse, length, Some, None, Ok, Err, sym, refl, subst, inl, inr, ⊎_elim, arith}
+use Rattle.std.proofs.Common.{◌≡◌, ℕ, ◌+◌, ◌-◌, Bool, true, false, not, ◌&&◌, ◌||◌, eqb, leb, List, [], ◌∷◌, reverse, length, Some, None, Ok, Err, subst, inl, inr, ⊎_elim, arith}
 use Rattle.std.proofs.lemmas.Bool.{and_parts, or_cases, leb-true, eqb-true, not-true}
-use Rattle.cost.specs.Algebra.{Algebra, Less, Most}
+use Rattle.cost.specs.Algebra.{Algebra}
 use Rattle.source.specs.Meaning.{Meaning}
 use Rattle.timing.specs.Visits.{Visit}
 use Rattle.timing.specs.Convex.{Bends}
 use Rattle.timing.specs.Back.{reach, ending, Lowest, Marked}
 use Rattle.timing.specs.Marks.{Marks}
-use Rattle.timing.specs.Timetables.{Feasible}
-use Rattle.timing.specs.Reach.{missed, Blocked, BlockedAt}
+use Rattle.timing.specs.Reach.{missed, Blocked}
 use Rattle.timing.proofs.Curves.{lowest_local}
 use Rattle.timing.proofs.Back.{ending_convex}
 use Rattle.timing.proofs.Theorems.{marked_marks}

@@ -8,7 +8,6 @@ use Rattle.source.specs.Meaning.{Meaning, Lawful}
 use Rattle.source.specs.Due.{due_meaning}
 use Rattle.source.proofs.Rows.{due_lawful}
 use Rattle.source.proofs.Layered.{pairing_lawful}
-use Rattle.timing.specs.Visits.{Visit}
 use Rattle.timing.specs.Convex.{Bends}
 use Rattle.timing.specs.Best.{Best}
 use Rattle.timing.specs.Marks.{Marks}
@@ -21,7 +20,7 @@ use Rattle.route.specs.declared.stop.Splice.{Splice}
 use Rattle.route.specs.declared.stop.Splice.TheVariants.{Insert, Remove}
 use Rattle.route.specs.declared.stop.Refusal.TheVariants.{NoTimetable}
 use Rattle.route.specs.Plain.{Plain, spliced, visits}
-use Rattle.route.specs.Judged.{Answer, objection, Judged, Runs}
+use Rattle.route.specs.Judged.{Answer, objection, Runs}
 use Rattle.route.specs.Joins.{JoinJudged, accepted}
 use Rattle.route.specs.Guarantee.{Read, told, told_mark, told_minute}
 use Rattle.route.proofs.Soundness.{lawful_sound}

@@ -1,6 +1,7 @@
 // Joins two half routes that are filed as strips: prints the report of each, and the least cost of the joined route.
 #![tactic(auto)]
 
+use anyhow::{Result, bail};
 use std::fs::File;
 use std::io::{Read, Write};
 use std::{env, io};
@@ -18,13 +19,10 @@ fn read_file(rt: &HostRuntime, path: &str) -> io::Result<Vec<u8>> {
 }
 
 // The bytes of a strip file; what is wrong is told with the file's name.
-fn read_strip(rt: &HostRuntime, path: &str) -> anyhow::Result<Vec<u8>> {
+fn read_strip(rt: &HostRuntime, path: &str) -> Result<Vec<u8>> {
     match read_file(rt, path) {
         Ok(strip) => Ok(strip),
-        Err(error) => {
-            let why = format!(in rt.alloc(); "{path}: {error}")?;
-            Err(why.into())
-        }
+        Err(error) => bail!("{path}: {error}"),
     }
 }
 
@@ -35,35 +33,25 @@ fn leg_of(word: &str) -> Option<u16> {
 }
 
 // What is printed of the join that the arguments ask for.
-fn joined(rt: &HostRuntime, args: &[String]) -> anyhow::Result<Vec<u8>> {
+fn joined(rt: &HostRuntime, args: &[String]) -> Result<Vec<u8>> {
     let [_, first, i, leg, second, j] = args else {
-        return Err(USAGE.into());
+        bail!("{USAGE}");
     };
     let (Ok(i), Some(leg), Ok(j)) = (
         i.as_str().parse::<usize>(),
         leg_of(leg.as_str()),
         j.as_str().parse::<usize>(),
     ) else {
-        return Err(USAGE.into());
+        bail!("{USAGE}");
     };
     let front = read_strip(rt, first.as_str())?;
     let back = read_strip(rt, second.as_str())?;
     Ok(join_text(rt.alloc(), front.as_slice(), i, leg, back.as_slice(), j)?)
 }
 
-fn run(rt: &HostRuntime) -> anyhow::Result<()> {
-    let args: Vec<String> = env::args(rt)?.collect(rt.alloc())?;
-    let text = joined(rt, args.as_slice())?;
+fn main(rt: HostRuntime) -> Result<()> {
+    let args: Vec<String> = env::args(&rt)?.collect(rt.alloc())?;
+    let text = joined(&rt, args.as_slice())?;
     rt.stdout().write_all(text.as_slice())?;
     Ok(())
-}
-
-fn main(rt: HostRuntime) -> anyhow::Result<()> {
-    match run(&rt) {
-        Ok(()) => Ok(()),
-        Err(error) => {
-            eprintln!(rt; "{error}")?;
-            Err(error)
-        }
-    }
 }

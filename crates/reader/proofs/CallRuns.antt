@@ -1,26 +1,24 @@
 -- Running calls comes to a list of splices, and to those that the bytes spell.
-use Rattle.std.proofs.Common.{◌≡◌, ℕ, suc, ◌+◌, ◌<◌, Bool, true, false, cond, ltb, leb, ◌⊎◌, List, [], ◌∷◌, ◌++◌, length, get_or, drop, replicate, Some, None, Ok, Err, Option, Result, sym, refl, ap, ◌∙◌, subst, inl, inr, append_assoc, add-zero, zero-add, arith, length-append}
+use Rattle.std.proofs.Common.{◌≡◌, ℕ, suc, ◌+◌, Bool, true, false, cond, ltb, leb, ◌⊎◌, List, [], ◌∷◌, ◌++◌, length, get_or, drop, replicate, Some, None, Ok, Err, Option, Result, sym, refl, ap, ◌∙◌, subst, inl, inr, append_assoc, add-zero, zero-add, arith, length-append}
 use Rattle.std.proofs.lemmas.List.{drop_all}
 use Rattle.std.proofs.lemmas.Bool.{cond-true, le-leb}
 use Rattle.cost.specs.Algebra.{Algebra}
 use Rattle.source.specs.Meaning.{Meaning}
 use Rattle.route.specs.declared.stop.Stop.{Stop}
 use Rattle.route.specs.declared.stop.Splice.{Splice}
-use Rattle.route.specs.declared.stop.Refusal.{Refusal}
 use Rattle.route.specs.Plain.{Plain}
 use Rattle.route.specs.Table.{plains, Marked}
-use Rattle.route.specs.Judged.{Answer, Judged, Runs}
+use Rattle.route.specs.Judged.{Runs}
 use Rattle.reader.specs.declared.faults.Cause.{Cause}
-use Rattle.reader.specs.declared.faults.Cause.TheVariants.{NoRoom, CutOff, TooLarge, RowMap, Unlawful, CallMap, Route}
+use Rattle.reader.specs.declared.faults.Cause.TheVariants.{CutOff, CallMap, Route}
 use Rattle.reader.specs.declared.faults.Fault.{Fault}
 use Rattle.reader.specs.declared.call.Form.{Form}
 use Rattle.reader.specs.declared.calls.Progress.{Progress}
 use Rattle.reader.specs.CallRecords.{form_of, next_call, splice_at, call_by, call_at}
-use Rattle.reader.specs.CallSpelling.{SpelledCall, NoCall}
 use Rattle.reader.specs.Running.{fault_of, advanced, begin, Call, Calls}
 use Rattle.reader.specs.Running.Call.{wrong, refused, accepted}
 use Rattle.reader.specs.Running.Calls.{past, ended, faulty, onward}
-use Rattle.reader.specs.CallLaws.{accepted_in, refusal_in, last_in, answers_in, CountAsSplices, SpelledCalls, FaultyAt, EndedAt, RunsExactly}
+use Rattle.reader.specs.CallLaws.{accepted_in, last_in, CountAsSplices, SpelledCalls, FaultyAt, EndedAt, RunsExactly}
 use Rattle.reader.specs.Ran.{Ran}
 use Rattle.reader.proofs.CallSpelling.{call_taken, call_none, reads_calls}
 

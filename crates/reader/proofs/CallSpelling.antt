@@ -1,16 +1,16 @@
 -- Bytes that spell a call are read as that call, and what is read as a call is spelled.
-use Rattle.std.proofs.Common.{◌≡◌, ℕ, ◌+◌, ◌/◌, ◌<◌, ◌≤◌, Bool, true, false, cond, eqb, ltb, leb, List, [], ◌∷◌, ◌++◌, length, get_or, drop, Some, None, Ok, Err, Option, Result, sym, refl, ap, ◌∙◌, subst, append_assoc, add-zero, arith, length-append}
+use Rattle.std.proofs.Common.{◌≡◌, ℕ, ◌+◌, ◌/◌, ◌<◌, ◌≤◌, Bool, true, false, cond, eqb, ltb, leb, List, [], ◌∷◌, ◌++◌, length, get_or, drop, Some, None, Ok, Err, Option, sym, refl, ap, ◌∙◌, subst, append_assoc, add-zero, arith, length-append}
 use Rattle.std.proofs.lemmas.List.{drop_more}
 use Rattle.std.proofs.lemmas.Bool.{cond-true, cond-false, ltb-false, leb-false, eqb-true, lt-leb, le-ltb, eq-eqb}
 use Rattle.route.specs.declared.stop.Splice.{Splice}
 use Rattle.reader.specs.declared.faults.Cause.{Cause}
-use Rattle.reader.specs.declared.faults.Cause.TheVariants.{CutOff, CallMap}
+use Rattle.reader.specs.declared.faults.Cause.TheVariants.{CutOff}
 use Rattle.reader.specs.declared.call.Form.{Form}
 use Rattle.reader.specs.declared.call.Form.TheVariants.{Inserting, Removing, Changing}
 use Rattle.reader.specs.Records.{stands, word_at}
 use Rattle.reader.specs.CallRecords.{form_by, form_of, curve_place, leg_in_place, leg_out_place, place_place, next_call, absent_place, splice_of, splice_at, call_by, call_at}
 use Rattle.reader.specs.CallSpelling.{ByteField, Bits, SpelledCall, NoCall, ReadsCalls}
-use Rattle.reader.proofs.Spelling.{Lies, lies, Found, found, head_at, passes, same_ok, after_at}
+use Rattle.reader.proofs.Spelling.{Lies, lies, found, head_at, passes, same_ok, after_at}
 
 -- a field of one byte that is not cut off is spelled by the byte at its place
 record LiesByte (bytes : List ℕ) (b : Bool) (place absent : ℕ) : Type 0 where

@@ -6,7 +6,7 @@ use Rattle.route.specs.declared.stop.Splice.{Splice}
 use Rattle.route.specs.declared.stop.Stop.{Stop}
 use Rattle.route.specs.Plain.{Plain}
 use Rattle.route.specs.Table.{plains, Marked}
-use Rattle.route.specs.Judged.{Answer, Judged}
+use Rattle.route.specs.Judged.{Judged}
 use Rattle.reader.specs.declared.faults.Cause.{Cause}
 use Rattle.reader.specs.declared.faults.Cause.TheVariants.{CutOff, Route}
 use Rattle.reader.specs.declared.faults.Fault.{Fault}
@@ -14,7 +14,6 @@ use Rattle.reader.specs.declared.faults.RefusedCall.{RefusedCall}
 use Rattle.reader.specs.declared.calls.Progress.{Progress}
 use Rattle.reader.specs.Causes.{carried}
 use Rattle.reader.specs.CallRecords.{call_at}
-use Rattle.reader.specs.CallLaws.{accepted_in}
 use Rattle.reader.specs.Running.{fault_of, refused_at, advanced, begin, answer_of, Told, Call, Calls}
 use Rattle.reader.specs.Running.Call.{wrong, refused, accepted}
 use Rattle.reader.specs.Running.Calls.{past, ended, faulty, onward}

@@ -1,5 +1,5 @@
 -- A refused splice leaves the stops.
-use Rattle.std.proofs.Common.{◌≡◌, ℕ, List, Ok, Err, Result, refl, arith}
+use Rattle.std.proofs.Common.{◌≡◌, ℕ, List, Err, refl, arith}
 use Rattle.cost.specs.Algebra.{Algebra}
 use Rattle.source.specs.Meaning.{Meaning}
 use Rattle.route.specs.declared.stop.Splice.{Splice}

@@ -15,28 +15,28 @@ read_call-requires g c =
     let r = c.args.route.now in
     omega (arith, c.stop_count.ensures, length-map (vec_items r.stops) plain, r.stops.ok.0, r.few)
 
-pub returns-in_err-apply_call : goal.returns-in_err-apply_call
-returns-in_err-apply_call g c =
+pub returns-in_err-apply_call-in-Ok : goal.returns-in_err-apply_call-in-Ok
+returns-in_err-apply_call-in-Ok g c =
     let told = err_from_is_err_and c.from_residual.result c.from_residual.ensures.1 in
     let K = g.S.Kind.Cost.algebra in
     let M = g.S.Source.meaning c.args.route.now.source in
     record {
       source = c.apply_call.ensures.source;
       ran = record {
-        call = rw told.1 (refused_call K M c.args.strip.now c.args.here (plains (vec_items c.args.route.now.stops)) c.stop_count.result c.in-Ok.splice c.in-Ok.next c.apply_call.result c.in_err-apply_call.field-0.0 told.0 (plains (vec_items c.apply_call.new.route.stops)) c.stop_count.ensures c.in-Ok.ensures c.apply_call.ensures.spliced.judged c.in_err-apply_call.was c.apply_call.ensures.told told.2);
+        call = rw told.1 (refused_call K M c.args.strip.now c.args.here (plains (vec_items c.args.route.now.stops)) c.stop_count.result c.in-Ok.splice c.in-Ok.next c.apply_call.result c.in_err-apply_call-in-Ok.field-0.0 told.0 (plains (vec_items c.apply_call.new.route.stops)) c.stop_count.ensures c.in-Ok.ensures c.apply_call.ensures.spliced.judged c.in_err-apply_call-in-Ok.was c.apply_call.ensures.told told.2);
         marked = c.apply_call.ensures.spliced.marked;
-        stays = λ _. c.apply_call.ensures.spliced.stays (ap (λ (x : Result (Unit {0}) RefusedCall). is_err (answer_of x)) c.in_err-apply_call.was);
+        stays = λ _. c.apply_call.ensures.spliced.stays (ap (λ (x : Result (Unit {0}) RefusedCall). is_err (answer_of x)) c.in_err-apply_call-in-Ok.was);
       };
     }
 
-pub returns-in_ok-apply_call : goal.returns-in_ok-apply_call
-returns-in_ok-apply_call g c =
+pub returns-in_ok-apply_call-in-Ok : goal.returns-in_ok-apply_call-in-Ok
+returns-in_ok-apply_call-in-Ok g c =
     let K = g.S.Kind.Cost.algebra in
     let M = g.S.Source.meaning c.args.route.now.source in
     record {
       source = c.apply_call.ensures.source;
       ran = record {
-        call = accepted_call K M c.args.strip.now c.args.here (plains (vec_items c.args.route.now.stops)) c.stop_count.result c.in-Ok.splice c.in-Ok.next c.apply_call.result c.advanced.result (plains (vec_items c.apply_call.new.route.stops)) c.stop_count.ensures c.in-Ok.ensures c.apply_call.ensures.spliced.judged c.in_ok-apply_call.was c.advanced.ensures;
+        call = accepted_call K M c.args.strip.now c.args.here (plains (vec_items c.args.route.now.stops)) c.stop_count.result c.in-Ok.splice c.in-Ok.next c.apply_call.result c.advanced.result (plains (vec_items c.apply_call.new.route.stops)) c.stop_count.ensures c.in-Ok.ensures c.apply_call.ensures.spliced.judged c.in_ok-apply_call-in-Ok.was c.advanced.ensures;
         marked = c.apply_call.ensures.spliced.marked;
         stays = λ e. absurd (ok-not-err e);
       };

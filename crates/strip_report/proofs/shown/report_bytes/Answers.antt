@@ -17,6 +17,6 @@ returns g c =
     let bytes = c.report.new.buf in
     let same : n - 0 ≡ n = omega arith in
     let read = front_read (replicate 2048 0) bytes (report_text (route_facts K m ss) (text told.cost)) n (n - 0) same told.answered told.bytes in
-    IfOk-weaker c.from_slice.result (λ v. (vec_items v ≡ take (n - 0) bytes) × (vec_len v ≡ length (take (n - 0) bytes))) (λ v. ReportOf K text m ss (vec_items v))
-    (λ v is. record { cost = told.cost; least = told.least c.requires.marked; best = told.best c.requires.marked; written = is.0 ∙ read })
-    c.from_slice.ensures.made
+    IfOk-weaker c.from_slice.result (λ v. vec_items v ≡ take (n - 0) bytes) (λ v. ReportOf K text m ss (vec_items v))
+    (λ v is. record { cost = told.cost; least = told.least c.requires.marked; best = told.best c.requires.marked; written = is ∙ read })
+    c.from_slice.ensures.items
