@@ -4,7 +4,7 @@ use Rattle.std.specs.Option.{option_map}
 use Rattle.std.specs.List.{slice_get}
 use Rattle.std.proofs.lemmas.Bool.{leb-true, le-leb, cond-true}
 use Rattle.source.specs.declared.due.DueRow.{DueRow}
-use Rattle.source.specs.Meaning.{Curve, span_of}
+use Rattle.source.specs.Meaning.{span_of}
 use Rattle.source.specs.Books.{only_if}
 use Rattle.source.specs.Due.{row_lawful, lateness, due_curve, due_meaning}
 use Rattle.source.specs.Layers.{common}

@@ -1,5 +1,5 @@
 -- What is printed of a strip: both routes answer its calls alike, and nothing else can be printed.
-use Rattle.std.proofs.Common.{◌≡◌, ℕ, List, [], map, length, Ok, decimal, Result, sym, refl, ap, ◌∙◌, subst}
+use Rattle.std.proofs.Common.{◌≡◌, ℕ, List, [], map, length, Ok, decimal, Result, sym, ap, ◌∙◌, subst}
 use Rattle.cost.specs.Algebra.{Algebra}
 use Rattle.cost.specs.Amounts.{whole}
 use Rattle.cost.specs.Pairs.{paired}

@@ -4,10 +4,8 @@ use Rattle.std.proofs.lemmas.List.{length-map}
 use Rattle.cost.specs.Algebra.{Algebra}
 use Rattle.source.specs.Meaning.{Meaning}
 use Rattle.route.specs.declared.stop.Stop.{Stop}
-use Rattle.route.specs.declared.stop.Facts.{Facts}
 use Rattle.route.specs.Plain.{Plain}
 use Rattle.route.specs.Table.{plain, plains, marks, Marked}
-use Rattle.route.specs.Judged.{Runs}
 use Rattle.route.specs.Calls.{timed}
 use Rattle.route.specs.Guarantee.{told, told_mark, told_minute}
 use Rattle.route.specs.Runs.{Told}

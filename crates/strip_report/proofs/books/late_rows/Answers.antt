@@ -1,4 +1,4 @@
-use Rattle.std.proofs.Common.{◌≡◌, ◌<◌, List, map, length, ap, ◌∙◌, arith}
+use Rattle.std.proofs.Common.{◌<◌, map, length, ap, ◌∙◌, arith}
 use Rattle.source.specs.declared.due.DueRow.{DueRow}
 use Rattle.std.proofs.lemmas.List.{take_more, take_all, map_push}
 use Rattle.source.specs.Due.{lateness}
