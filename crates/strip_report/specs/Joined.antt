@@ -73,5 +73,5 @@ pub record JoinPrintsOnly (strip : List ℕ) (i leg : ℕ) (other : List ℕ) (j
   pub only : (also : List ℕ) → JoinPrinted strip i leg other j also → also ≡ text
 
 -- the exact cost that a join answered
-abbrev pub units : Result Amount Refusal → Result ℕ Refusal
-units r = exactly (λ a. a.units) r
+abbrev pub joined_units : Result Amount Refusal → Result ℕ Refusal
+joined_units r = exactly (λ a. a.units) r

@@ -1,5 +1,5 @@
 ghost use Rattle.std.specs.Prelude.{◌≡◌, ◌+◌, ◌-◌, ◌≤◌, min, ◌++◌, IfOk, string_bytes};
-ghost use Rattle.strip_report.specs.Joined.{units, fault_in, joined_text, join_lines, JoinReports, JoinPrintsOnly};
+ghost use Rattle.strip_report.specs.Joined.{joined_units, fault_in, joined_text, join_lines, JoinReports, JoinPrintsOnly};
 
 use crate::books::money_book;
 use crate::shown::show;
@@ -42,7 +42,7 @@ fn join_lines(
     count: usize,
     joined: Result<Amount, Refusal>,
 ) -> Result<String, AllocError>
-    ensures { IfOk result (λ s. string_bytes s ≡ join_lines count (units joined)) }
+    ensures { IfOk result (λ s. string_bytes s ≡ join_lines count (joined_units joined)) }
 {
     match joined {
         Ok(least) => put_joined(heap, count, least.units()),

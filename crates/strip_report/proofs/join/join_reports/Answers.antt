@@ -9,7 +9,7 @@ use Rattle.route.specs.Table.{plain, plains}
 use Rattle.route.specs.Joins.{JoinJudged}
 use Rattle.route.specs.Guarantee.{told}
 use Rattle.strip_report.specs.Shown.{StripReport}
-use Rattle.strip_report.specs.Joined.{units, half_text, join_lines, JoinReports}
+use Rattle.strip_report.specs.Joined.{joined_units, half_text, join_lines, JoinReports}
 use Rattle.strip_report.proofs.JoinOnly.{join_reports}
 use Rattle.strip_report.proofs.Pieces.{pieces_are}
 use Rattle.strip_report.proofs.join.join_reports.Goals as goal
@@ -44,7 +44,7 @@ returns c =
     let b = vec_items two.report in
     let ps = plains (vec_items one.route.stops) in
     let qs = plains (vec_items two.route.stops) in
-    let result = units c.join-joined.result in
+    let result = joined_units c.join-joined.result in
     let n = c.joined_count-count.result in
     let x : (v : StripReport whole decimal (due_meaning rows) strip from r a) × (ps ≡ map told v.facts) =
     subst (λ (l : List DueRow). (v : StripReport whole decimal (due_meaning l) strip from r a) × (ps ≡ map told v.facts)) c.in_ok-money_book.ensures (shown.told_by, shown.stops) in
