@@ -1,12 +1,18 @@
-ghost use Rattle.std.specs.Prelude.{◌≤◌, length, IfOk};
+ghost use Rattle.std.specs.Prelude.{ℕ, ◌<◌, ◌≤◌, length, take, IfOk, OnErr};
+ghost use Rattle.std.specs.Io.KnownBytes.{Consumes, IsAtEnd};
 
 use std::io;
 use std::io::Read;
 
-// Fills the buffer from its front until it is full or the input ends, and answers how many bytes came.
+// Fills the buffer from its front until it is full or the input ends, and answers how many bytes came. Of an input
+// whose bytes are known: those stand at the buffer's front, and they are all of it where the buffer is not full. After
+// an error what came before it stands at the front too, but its length is not told. The rest of the buffer is scratch.
 // Nothing says that an input ends, but each turn that is not the last one reads a byte.
 pub fn read_strip<R: Read>(input: &mut R, buffer: &mut [u8]) -> io::Result<usize>
-    ensures { IfOk result (λ n. n ≤ length buffer.old) }
+    ensures within { IfOk result (λ n. n ≤ length buffer.old) }
+    ensures bytes { IfOk result (λ n. Consumes (R.remaining input.old) (R.remaining input.new) (take n buffer.new)) }
+    ensures all { IfOk result (λ n. n < length buffer.old → IsAtEnd (R.remaining input.new)) }
+    ensures kept { OnErr result ((k : ℕ) × (k ≤ length buffer.old) × Consumes (R.remaining input.old) (R.remaining input.new) (take k buffer.new)) }
 {
     let mut filled = 0;
     for _ in 0..buffer.len() {

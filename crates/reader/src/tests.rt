@@ -1,3 +1,4 @@
+use crate::input::read_strip;
 use crate::rows::read_rows;
 use source::due::DueRow;
 
@@ -82,4 +83,17 @@ fn rows_on_each_side_of_their_limits(rt: HostRuntime) {
     assert_eq!(rt; two(&[1, 0x18, 0x03, 0xE8, 0x03, 0xE8]), (0, 1, 6));
     assert_eq!(rt; two(&[1, 0x18, 0x03, 0xE9, 0x03, 0xE8]), (10, 0, 1));
     assert_eq!(rt; two(&[1, 0x18, 0x03, 0xE8, 0x03, 0xE9]), (10, 0, 1));
+}
+
+#[test]
+fn input_fills_the_front(rt: HostRuntime) {
+    let mut wide = [9; 5];
+    let mut short: &[u8] = &[1, 2, 3];
+    assert_eq!(rt; read_strip(&mut short, &mut wide).unwrap_or(0), 3);
+    assert!(rt; wide == [1, 2, 3, 9, 9]);
+    let mut narrow = [9; 2];
+    let mut long: &[u8] = &[1, 2, 3];
+    assert_eq!(rt; read_strip(&mut long, &mut narrow).unwrap_or(0), 2);
+    assert!(rt; narrow == [1, 2]);
+    assert_eq!(rt; read_strip(&mut long, &mut []).unwrap_or(9), 0);
 }
