@@ -7,3 +7,4 @@ mod CallRuns
 mod Running
 pub mod Fronts
 pub mod SameCalls
+pub mod Filling

@@ -8,6 +8,7 @@ use std::io::Read;
 // whose bytes are known: those stand at the buffer's front, and they are all of it where the buffer is not full. After
 // an error what came before it stands at the front too, but its length is not told. The rest of the buffer is scratch.
 // Nothing says that an input ends, but each turn that is not the last one reads a byte.
+#[tactic(auto, using(crate::proofs::Filling::filled_more))]
 pub fn read_strip<R: Read>(input: &mut R, buffer: &mut [u8]) -> io::Result<usize>
     ensures within { IfOk result (λ n. n ≤ length buffer.old) }
     ensures bytes { IfOk result (λ n. Consumes (R.remaining input.old) (R.remaining input.new) (take n buffer.new)) }
