@@ -1,6 +1,7 @@
 -- The test of a head against the conditions on it. Assumes nothing.
-use Rattle.std.proofs.Common.{◌≡◌, ℕ, zero, suc, ◌+◌, ◌-◌, ◌<◌, ◌≤◌, true, ◌&&◌, leb, List, [], ◌∷◌, length, drop, ℤ, pos, negsuc, ◌≤ℤ◌, sym, refl, ap, ◌∙◌, subst, ⊎_elim, add-one, arith, length-drop, length-take, get_or-drop, get_or-take}
+use Rattle.std.proofs.Common.{◌≡◌, ℕ, zero, suc, ◌+◌, ◌-◌, ◌<◌, ◌≤◌, Bool, true, false, ◌&&◌, leb, eqb, List, [], ◌∷◌, length, drop, ℤ, pos, negsuc, ◌≤ℤ◌, sym, refl, ap, ◌∙◌, subst, ⊎_elim, add-one, arith, length-drop, length-take, get_or-drop, get_or-take}
 use lib.Signed.{le_z}
+use Rattle.std.specs.List.{IsAllAdjacentAnswer}
 use Rattle.std.proofs.lemmas.Int.{ints, clamps}
 use Rattle.std.proofs.lemmas.Bool.{and_parts, and_from, leb-true, le-leb, ltb-true, lt-ltb, eqb-true, eq-eqb, cases_lt}
 use Rattle.bend_book.specs.Bends.{cost_after, lowest_after, own_bends}
@@ -8,6 +9,13 @@ use Rattle.bend_book.specs.Heads.{bend_at, own_bend, LawfulHead}
 use Rattle.bend_book.specs.HeadTest.{head_limits, bend_fits, each_fits, follows, each_follows, orderly, own_lawful, head_lawful, TestExact}
 use Rattle.bend_book.specs.declared.bend.Bend.{Bend}
 use Rattle.bend_book.specs.declared.bend.BendHead.{BendHead}
+
+and_true : (x y : Bool) → true ≡ x → (x && y) ≡ y
+and_true true y e = refl
+and_true false y e = cc
+
+abbrev none : Bend
+none = record { minute = 0; step = pos 0 }
 
 pub le_z_true : (a b : ℤ) → le_z a b ≡ true → a ≤ℤ b
 le_z_true a b e = grind (arith, ints)
@@ -39,6 +47,28 @@ follows_each a (b ∷ bs) e (suc i) h = follows_each b bs (and_parts _ _ e).1 i 
 follows_from : (a : Bend) (bs : List Bend) → ((i : ℕ) → i < length bs → follows (bend_at (a ∷ bs) i) (bend_at bs i) ≡ true) → each_follows a bs ≡ true
 follows_from a [] f = refl
 follows_from a (b ∷ bs) f = and_from _ _ (f 0 (omega arith)) (follows_from b bs (λ i h. f (suc i) (omega arith)))
+
+refuted : (r : Bool) → (r ≡ true → ⊥) → false ≡ r
+refuted true f = absurd (f refl)
+refuted false f = refl
+
+-- the answer of the library on each two neighbours is the test of the bends behind the first
+neighbours : (b : Bend) (bs : List Bend) (r : Bool) → IsAllAdjacentAnswer (λ x y v. v ≡ follows x y) (b ∷ bs) r → r ≡ each_follows b bs
+neighbours b bs true h =
+    sym (follows_from b bs (λ i l.
+    let e : i + 1 ≡ suc i = add-one i in
+    subst (λ (k : ℕ). follows (bend_at (b ∷ bs) i) (bend_at (b ∷ bs) k) ≡ true) e (sym (h i none (omega arith)))))
+neighbours b bs false (k, l, f) =
+    refuted _ (λ e.
+    let s : k + 1 ≡ suc k = add-one k in
+    let no : false ≡ follows (bend_at (b ∷ bs) k) (bend_at bs k) = subst (λ (m : ℕ). false ≡ follows (bend_at (b ∷ bs) k) (bend_at (b ∷ bs) m)) s (f none) in
+    let yes = follows_each b bs e k (omega arith) in
+    let both : false ≡ true = no ∙ yes in
+    cc)
+
+pub orderly_told : (first : ℕ) (bs : List Bend) (r : Bool) → 0 < length bs → eqb (bend_at bs 0).minute first ≡ true → IsAllAdjacentAnswer (λ x y v. v ≡ follows x y) bs r → r ≡ orderly first bs
+orderly_told first [] r l e h = absurd (omega arith)
+orderly_told first (b ∷ bs) r l e h = neighbours b bs r h ∙ sym (and_true _ _ (sym e))
 
 orderly_first : (first : ℕ) (bs : List Bend) → orderly first bs ≡ true → 0 < length bs → (bend_at bs 0).minute ≡ first
 orderly_first first [] e h = absurd (omega arith)

@@ -1,5 +1,6 @@
 -- The test of a head, in the parts that the code takes, and that it is exact. Assumes nothing.
 use Rattle.std.specs.Prelude.{◌≡◌, ℕ, ◌-◌, Bool, true, ◌&&◌, List, [], ◌∷◌, length, pos, negsuc, ◌==◌, int_le, nat_le, nat_lt}
+use Rattle.std.specs.List.{list_all}
 use Rattle.bend_book.specs.Bends.{own_bends, lowest_after}
 use Rattle.bend_book.specs.Heads.{LawfulHead}
 use Rattle.bend_book.specs.declared.bend.Bend.{Bend}
@@ -14,8 +15,7 @@ abbrev pub bend_fits : ℕ → Bend → Bool
 bend_fits last b = nat_le b.minute last && (int_le (negsuc 999) b.step && int_le b.step (pos 1000))
 
 abbrev pub each_fits : ℕ → List Bend → Bool
-each_fits last [] = true
-each_fits last (b ∷ bs) = bend_fits last b && each_fits last bs
+each_fits last bs = list_all (bend_fits last) bs
 
 -- b's minute is later than a's, and its step is no smaller
 abbrev pub follows : Bend → Bend → Bool

@@ -3,7 +3,7 @@ ghost use Rattle.cost.specs.Amounts.{whole};
 ghost use Rattle.source.specs.Meaning.{Lawful};
 ghost use Rattle.source.specs.Books.{open_entry};
 ghost use Rattle.bend_book.specs.Bends.{step_at, lowest_after, own_bends, cost_at, bend_penalty};
-ghost use Rattle.bend_book.specs.HeadTest.{head_limits, bend_fits, each_fits, follows, each_follows, orderly, own_lawful, head_lawful, TestExact};
+ghost use Rattle.bend_book.specs.HeadTest.{head_limits, bend_fits, each_fits, follows, orderly, own_lawful, head_lawful, TestExact};
 ghost use Rattle.bend_book.specs.BendBook.{BendConvex, bend_meaning};
 
 use cost::amount::Amount;
@@ -18,7 +18,7 @@ pub struct Bend {
 }
 
 // A curve from `first` to `last` that costs `start` at first, and whose bends are `count` entries of the book's table, the first at entry number `from`.
-#[derive(Clone, Copy, PartialEq, Eq, Debug)]
+#[derive(Clone, Copy, PartialEq, Eq, Debug, Default)]
 pub struct BendHead {
     pub first: u16,
     pub last: u16,
@@ -66,26 +66,7 @@ fn step_at(bends: &[Bend], minute: u16) -> i16
 fn each_fits(bends: &[Bend], last: u16) -> bool
     ensures { result ≡ each_fits last bends.now }
 {
-    for bend in bends {
-        if !bend.fits(last) {
-            return false;
-        }
-    }
-    true
-}
-
-// Whether each bend follows the one before, the first of them `before`.
-fn each_follows(before: Bend, bends: &[Bend]) -> bool
-    ensures { result ≡ each_follows before bends.now }
-{
-    let mut previous = before;
-    for bend in bends {
-        if !previous.rises_to(bend) {
-            return false;
-        }
-        previous = *bend;
-    }
-    true
+    bends.iter().all(|bend| bend.fits(last))
 }
 
 // Whether the first bend's minute is `first`, and each other bend follows the one before.
@@ -94,7 +75,7 @@ fn is_orderly(bends: &[Bend], first: u16) -> bool
 {
     match bends {
         [] => true,
-        [bend, rest @ ..] => bend.minute == first && each_follows(*bend, rest),
+        [bend, ..] => bend.minute == first && bends.is_sorted_by(|a, b| a.rises_to(b)),
     }
 }
 
@@ -115,9 +96,9 @@ impl BendHead {
         ensures bound { unsigned_abs result ≤ 2 ^ 33 }
         ensures convex { BendConvex }
     {
-        let mut cost = self.start as i64;
+        let mut cost = i64::from(self.start);
         for passed in self.first..minute {
-            cost += step_at(bends, passed) as i64;
+            cost += i64::from(step_at(bends, passed));
         }
         cost
     }
@@ -126,10 +107,10 @@ impl BendHead {
     fn lowest(&self, bends: &[Bend]) -> i64
         ensures { result ≡ lowest_after self.now.start bends.now self.now.first (self.now.last - self.now.first) }
     {
-        let mut cost = self.start as i64;
+        let mut cost = i64::from(self.start);
         let mut lowest = cost;
         for passed in self.first..self.last {
-            cost += step_at(bends, passed) as i64;
+            cost += i64::from(step_at(bends, passed));
             lowest = lowest.min(cost);
         }
         lowest
@@ -171,6 +152,7 @@ impl BendHead {
     }
 }
 
+// Kept: this book and the due book are alike in four short methods; one struct for both would need a trait with the test, the window and the cost of an entry, its laws, and a table for what the test reads besides, which is more than it saves.
 impl BendBook {
     pub fn new(heads: Vec<BendHead>, bends: Vec<Bend>) -> BendBook
         ensures { (result.heads ≡ heads) × (result.bends ≡ bends) }
@@ -182,12 +164,7 @@ impl BendBook {
     fn open_head(&self, curve: u8) -> Option<BendHead>
         ensures { result ≡ open_entry (head_lawful self.now.bends.items) self.now.heads.items curve }
     {
-        let head = entry(self.heads.as_slice(), curve)?;
-        if head.lawful(self.bends.as_slice()) {
-            Some(head)
-        } else {
-            None
-        }
+        entry(self.heads.as_slice(), curve).filter(|head| head.lawful(self.bends.as_slice()))
     }
 
     // 2^21: a lawful head starts at no more than 500000 and adds at most 1000 a minute, over at most 1440 minutes.
@@ -207,17 +184,15 @@ impl Source for BendBook {
     ghost meaning = { λ s. bend_meaning s.bends.items s.heads.items };
 
     fn window(&self, curve: u8) -> Option<(u16, u16)> {
-        let head = self.open_head(curve)?;
-        Some((head.first, head.last))
+        self.open_head(curve).map(|head| (head.first, head.last))
     }
 
     fn cost(&self, curve: u8, minute: u16) -> Option<Amount> {
         let head = self.open_head(curve)?;
-        if head.first <= minute && minute <= head.last {
-            Some(Amount::new(head.penalty(self.bends.as_slice(), minute)))
-        } else {
-            None
-        }
+        (head.first <= minute && minute <= head.last).then(|| Amount::new(head.penalty(
+            self.bends.as_slice(),
+            minute,
+        )))
     }
 
     fn peak(&self) -> u64 {

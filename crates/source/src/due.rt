@@ -9,7 +9,7 @@ use crate::source::Source;
 use cost::amount::Amount;
 
 // A row of the due book: the curve is open from `first` to `last`, and costs by how far a minute lies from `due`.
-#[derive(Clone, Copy, PartialEq, Eq, Debug)]
+#[derive(Clone, Copy, PartialEq, Eq, Debug, Default)]
 pub struct DueRow {
     pub first: u16,
     pub last: u16,
@@ -29,7 +29,7 @@ fn charge(rate: u16, minutes: u16) -> u64
     ensures value { result ≡ rate * minutes }
     ensures convex { DueConvex }
 {
-    rate as u64 * minutes as u64
+    u64::from(rate) * u64::from(minutes)
 }
 
 impl DueRow {
@@ -85,8 +85,7 @@ impl DueBook {
     fn open_row(&self, curve: u8) -> Option<DueRow>
         ensures { result ≡ open_entry row_lawful self.now.rows.items curve }
     {
-        let row = entry(self.rows.as_slice(), curve)?;
-        if row.lawful() { Some(row) } else { None }
+        entry(self.rows.as_slice(), curve).filter(|row| row.lawful())
     }
 
     // 2^21: a lawful row costs at most 1000 a minute, over at most 1440 minutes.
@@ -106,17 +105,12 @@ impl Source for DueBook {
     ghost meaning = { λ s. due_meaning s.rows.items };
 
     fn window(&self, curve: u8) -> Option<(u16, u16)> {
-        let row = self.open_row(curve)?;
-        Some((row.first, row.last))
+        self.open_row(curve).map(|row| (row.first, row.last))
     }
 
     fn cost(&self, curve: u8, minute: u16) -> Option<Amount> {
         let row = self.open_row(curve)?;
-        if row.first <= minute && minute <= row.last {
-            Some(Amount::new(row.penalty(minute)))
-        } else {
-            None
-        }
+        (row.first <= minute && minute <= row.last).then(|| Amount::new(row.penalty(minute)))
     }
 
     fn peak(&self) -> u64 {

@@ -36,7 +36,7 @@ impl<A: Source, B: Source> Source for Pairing<A, B> {
         let (from, to) = self.second.window(curve)?;
         let low = first.max(from);
         let high = last.min(to);
-        if low <= high { Some((low, high)) } else { None }
+        (low <= high).then_some((low, high))
     }
 
     fn cost(&self, curve: u8, minute: u16) -> Option<Pair<A::Kind, B::Kind>> {

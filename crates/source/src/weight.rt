@@ -20,10 +20,9 @@ impl WeightTable {
     fn weight(&self, curve: u8) -> u8
         ensures { result ≡ weight_of self.now.entries curve }
     {
-        if curve >= 64 {
-            return 0;
-        }
-        self.entries[curve as usize].min(100)
+        self.entries
+            .get(usize::from(curve))
+            .map_or(0, |weight| (*weight).min(100))
     }
 }
 

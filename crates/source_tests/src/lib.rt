@@ -37,10 +37,7 @@ mod tests {
     }
 
     fn units(cost: Option<Amount>) -> Option<u64> {
-        match cost {
-            Some(amount) => Some(amount.units()),
-            None => None,
-        }
+        cost.map(Amount::units)
     }
 
     #[test]

@@ -1,7 +1,6 @@
-use Rattle.std.proofs.Common.{List, get_or, pos, sym, ap, ◌∙◌, take_all, w16, SFits, rules}
+use Rattle.std.proofs.Common.{get_or, pos, sym, ◌∙◌, w16, SFits, rules}
 use Rattle.std.proofs.lemmas.Int.{to_z-of_z}
 use Rattle.std.proofs.lemmas.Bool.{le-leb, lt-leb, cond-true, cond-false}
-use Rattle.bend_book.specs.Bends.{step_at}
 use Rattle.bend_book.specs.declared.bend.Bend.{Bend}
 use Rattle.bend_book.proofs.Steps.{step_next}
 use Rattle.bend_book.proofs.bend.step_at.Goals as goal
@@ -18,6 +17,3 @@ loop-bend-preserved c =
       | then-bend-minute w ↦ let f : SFits w16 (get_or bs i d).step = search rules in w.step-is ∙ to_z-of_z w16 _ f ∙ sym (next ∙ cond-true _ _ _ (le-leb _ _ w.if-bend-minute.true))
       | else-bend-minute w ↦ w.step-is ∙ c.loop-bend.invariant ∙ sym (next ∙ cond-false _ _ _ (lt-leb _ _ w.if-bend-minute.false))
     ]
-
-pub returns : goal.returns
-returns c = c.loop-bend.invariant ∙ ap (λ (l : List Bend). step_at l c.args.minute) (take_all _ _ c.loop-bend-test.false)

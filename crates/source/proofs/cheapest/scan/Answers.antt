@@ -1,12 +1,8 @@
 use Rattle.std.proofs.Common.{ℕ, ◌+◌, ◌<◌, Option, sym, subst, arith}
 use Rattle.std.specs.Option.{option_map}
 use Rattle.source.specs.Cheapest.{exactly}
-use Rattle.source.proofs.Scan.{Found, found_none, found_more, found_all}
+use Rattle.source.proofs.Scan.{Found, found_more, found_all}
 use Rattle.source.proofs.cheapest.scan.Goals as goal
-
-pub loop-minute-init : goal.loop-minute-init
-loop-minute-init g c =
-    found_none g.S.Kind.Cost.algebra ((g.S.Source.meaning c.args.source.now).curve c.args.curve) c.args.first c.args.first (omega arith)
 
 pub loop-minute-preserved : goal.loop-minute-preserved
 loop-minute-preserved g c =
@@ -18,12 +14,6 @@ loop-minute-preserved g c =
     let r = exactly exact c.loop-minute.best in
     let v = option_map exact c.cost.result in
     subst (λ (q : Option (ℕ × g.row.S-Exact.Denot)). Found K o a (b + 1) q) (sym c.cheaper-best.ensures) (found_more K o a b r v c.cost.ensures c.loop-minute.invariant)
-
-pub returns : goal.returns
-returns g c =
-    let m = g.S.Source.meaning c.args.source.now in
-    found_all g.S.Kind.Cost.algebra m.peak (m.curve c.args.curve) c.args.first c.args.last c.loop-minute.minute (exactly g.S.Kind.Cost.exact c.loop-minute.best)
-    (c.peak.ensures.lawful.sound c.args.curve) c.requires c.loop-minute-test.false c.loop-minute.invariant
 
 pub returns-2 : goal.returns-2
 returns-2 g c =

@@ -1,17 +1,8 @@
-use Rattle.std.proofs.Common.{◌≡◌, ◌-◌, ap, ◌∙◌, arith, w16, SFits, rules}
+use Rattle.std.proofs.Common.{◌≡◌, ◌-◌, ap, ◌∙◌, arith}
 use Rattle.std.proofs.lemmas.Int.{ints}
 use Rattle.bend_book.specs.Bends.{cost_after}
-use Rattle.bend_book.proofs.Steps.{cost_step}
 use Rattle.bend_book.proofs.Bent.{bend_convex}
 use Rattle.bend_book.proofs.bend.BendHead.cost_at.Goals as goal
-
-pub loop-passed-preserved : goal.loop-passed-preserved
-loop-passed-preserved c =
-    let h = c.args.self.now in
-    let f : SFits w16 c.step_at.result = search rules in
-    let e = cost_step h.start c.args.bends.now h.first c.loop-passed.passed c.loop-passed.auto.passed in
-    let v = c.step_at.ensures in
-    (omega (arith, ints), omega (arith, ints), omega (arith, ints), omega arith)
 
 pub returns : goal.returns
 returns c =
