@@ -56,11 +56,11 @@ all_served vs i h r = (feasible_reaches vs).1 (subst (Reaches 0) (take_all i vs 
 
 module _ {E : Type 0} (vs : List (Visit E)) where
   -- past the last stop no minute is added
-  pub reached_all : (i n : ℕ) → i ≡ min n (length vs) → reached vs i ≡ reached vs n
-  reached_all i n e = elim (dec_le n (length vs)) [
+  pub reached_all : (n : ℕ) → reached vs n ≡ reached vs (min n (length vs))
+  reached_all n = elim (dec_le n (length vs)) [
     | yes h ↦ ap (reached vs) (omega arith)
-    | no h ↦ ap (λ ws. min (arrive 0 ws) 65535) (take_all i vs (omega arith) ∙ sym (take_all n vs (omega arith)))
+    | no h ↦ ap (λ ws. min (arrive 0 ws) 65535) (take_all n vs (omega arith) ∙ sym (take_all (min n (length vs)) vs (omega arith)))
   ]
 
-  pub reached_next : (K : Algebra E) (i p first leg : ℕ) → i < length vs → p ≡ reached vs i → first ≡ (at K vs i).first → leg ≡ (at K vs i).leg → first < 65536 → max first (min (p + leg) 65535) ≡ reached vs (i + 1)
-  reached_next K i p first leg h e a b few = omega (arith, arrive_next K vs i h)
+  pub reached_next : (K : Algebra E) (i : ℕ) → i < length vs → reached vs (i + 1) ≡ min (max (at K vs i).first (reached vs i + (at K vs i).leg)) 65535
+  reached_next K i h = omega (arith, arrive_next K vs i h)

@@ -1,5 +1,6 @@
 -- The minutes that marks give, and their bill, one stop at a time. Assumes nothing.
 use Rattle.std.proofs.Common.{◌≡◌, ℕ, zero, suc, ◌+◌, ◌-◌, ◌*◌, ◌^◌, ◌<◌, ◌≤◌, min, List, [], ◌∷◌, length, get_or, drop, sym, refl, ap, ◌∙◌, subst, arith}
+use native.Mathlib.Numerals.{unary_clauses}
 use Rattle.cost.specs.Algebra.{Algebra}
 use Rattle.timing.specs.Visits.{Visit, at}
 use Rattle.timing.specs.Timetables.{Fits, bill}
@@ -29,13 +30,13 @@ module _ {E : Type 0} where
   minutes_last (v ∷ w ∷ vs) (m ∷ n ∷ ms) zero p q h = absurd (omega arith)
   minutes_last (v ∷ vs) (m ∷ ms) (suc j) p q h = minutes_last vs ms j (omega arith) (omega arith) (omega arith)
 
-  pub minutes_step : (K : Algebra E) (vs : List (Visit E)) (ms : List ℕ) (j : ℕ) → suc j < min (length vs) (length ms) → get_or (minutes vs ms) j 0 ≡ min (get_or ms j 0) (get_or (minutes vs ms) (suc j) 0 - (at K vs (suc j)).leg)
+  pub minutes_step : (K : Algebra E) (vs : List (Visit E)) (ms : List ℕ) (j : ℕ) → j + 1 < min (length vs) (length ms) → get_or (minutes vs ms) j 0 ≡ min (get_or ms j 0) (get_or (minutes vs ms) (j + 1) 0 - (at K vs (j + 1)).leg)
   minutes_step K [] ms j h = absurd (omega arith)
   minutes_step K (v ∷ vs) [] j h = absurd (omega arith)
   minutes_step K (v ∷ []) (m ∷ ms) zero h = absurd (omega arith)
   minutes_step K (v ∷ w ∷ vs) (m ∷ []) zero h = absurd (omega arith)
   minutes_step K (v ∷ w ∷ vs) (m ∷ n ∷ ms) zero h = refl
-  minutes_step K (v ∷ vs) (m ∷ ms) (suc j) h = minutes_step K vs ms j (omega arith)
+  minutes_step K (v ∷ vs) (m ∷ ms) (suc j) h = simp unary_clauses (simp unary_clauses at (minutes_step K vs ms j (omega arith)))
 
 module _ {E : Type 0} (K : Algebra E) where
   pub fits_at : (p : ℕ) (vs : List (Visit E)) (ts : List ℕ) (j : ℕ) → Fits p vs ts → j < length vs → ((at K vs j).first ≤ get_or ts j 0) × (get_or ts j 0 ≤ (at K vs j).last)

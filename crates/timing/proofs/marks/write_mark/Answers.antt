@@ -6,7 +6,7 @@ use Rattle.timing.proofs.marks.write_mark.Goals as goal
 
 pub returns : goal.returns
 returns g c = record {
-  others = λ k h. get_or-set_other c.args.marks.now c.args.i k c.mark_from-mark.result 0 h;
+  others = λ k h. get_or-set_other c.args.marks.now c.args.i k c.mark_from.result 0 h;
   marked = λ sound feasible more e marks.
       let K = g.L.Kind.Cost.algebra in
       let vs = g.L.Line.visits c.args.line.now in
@@ -14,6 +14,6 @@ returns g c = record {
       let i = c.args.i in
       let long = front_length K vs ms i more c.requires marks in
       let ready = front_ready K vs ms i more c.requires marks sound feasible in
-      marks_more K vs ms i more c.requires marks c.mark_from-mark.result
-      (subst (λ n. Mark K vs n c.mark_from-mark.result) long (c.mark_from-mark.ensures ready (subst (λ n. c.args.soonest ≡ reached vs (n + 1)) (sym long) e)));
+      marks_more K vs ms i more c.requires marks c.mark_from.result
+      (subst (λ n. Mark K vs n c.mark_from.result) long (c.mark_from.ensures ready (subst (λ n. c.args.soonest ≡ reached vs (n + 1)) (sym long) e)));
 }

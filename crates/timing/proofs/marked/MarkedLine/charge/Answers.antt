@@ -1,11 +1,12 @@
 use Rattle.std.proofs.Common.{◌+◌, ◌^◌, ◌≤◌, sym, ◌∙◌, ap₂, subst₂}
 use Rattle.timing.proofs.Timings.{served_inside, charged_step, charged_small}
-use Rattle.timing.proofs.minutes.charge.Goals as goal
+use Rattle.timing.proofs.marked.MarkedLine.charge.Goals as goal
 
 pub returns : goal.returns
-returns g c ms s h e total =
+returns g c s h e total =
     let K = g.L.Kind.Cost.algebra in
-    let vs = g.L.Line.visits c.args.line.now in
+    let vs = g.L.Line.visits c.args.self.now.line.now in
+    let ms = c.args.self.now.marks.now in
     let j = c.args.j in
     let t = c.args.minute in
     let i = served_inside K vs ms s j t h e in
