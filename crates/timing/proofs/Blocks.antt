@@ -12,7 +12,7 @@ use Rattle.timing.specs.Back.{reach, Marked}
 use Rattle.timing.proofs.Theorems.{marks_take}
 use Rattle.timing.proofs.Searches.{marks_back}
 use Rattle.timing.proofs.Steps.{reverse_take}
-use Rattle.timing.proofs.Timings.{small_at}
+use Rattle.timing.proofs.Timings.{Priced, IsExact, small_at}
 use Rattle.timing.proofs.Marking.{next_reach}
 
 -- with `rest` the marks of the stops that are left to walk, u the minute left for the last of them, and x and y charged
@@ -23,10 +23,6 @@ pub record Walked {E : Type 0} (K : Algebra E) (vs : List (Visit E)) (ms : List 
   pub small_x : K.size x ≤ (length ms + 1 - length rest) * 2 ^ 40
   pub small_y : K.size y ≤ (length ms + 1 - length rest) * 2 ^ 40
   pub left : walk K (back vs (length rest)) (reverse rest) u x y ≡ block K vs ms t
-
--- p is what stop i costs at minute u, if it can be served then
-abbrev pub Priced : {E : Type 0} → Algebra E → List (Visit E) → ℕ → ℕ → E → Type 0
-Priced K vs i u p = (at K vs i).first ≤ u → u ≤ (at K vs i).last → p ≡ (at K vs i).price u
 
 module _ {E : Type 0} (K : Algebra E) (vs : List (Visit E)) (ms : List ℕ) (t : ℕ) where
   pub walk_starts : (rest : List ℕ) (u : ℕ) (x y : E) → rest ≡ ms → u ≡ t - (at K vs (length ms)).leg → Priced K vs (length ms) t x → Priced K vs (length ms) (t + 1) y → Choice K vs ms t → Walked K vs ms t rest u x y
@@ -51,9 +47,6 @@ module _ {E : Type 0} (K : Algebra E) (vs : List (Visit E)) (ms : List ℕ) (t :
             ∙ ap (λ z. walk K (back vs next) (back ms next) z x y) e
             ∙ ap₂ (walk K (back vs next) (back ms next) (t - (at K vs next).leg)) d e';
       }
-
-  pub walk_ends : (rest : List ℕ) (u : ℕ) (x y : E) → rest ≡ [] → Walked K vs ms t rest u x y → (x, y) ≡ block K vs ms t
-  walk_ends rest u x y e w = subst (λ z. walk K (back vs (length z)) (reverse z) u x y ≡ block K vs ms t) e w.left
 
   module _ (rest front : List ℕ) (m u j : ℕ) (x y : E) (e : rest ≡ front ++ m ∷ []) (d : j ≡ length front) (w : Walked K vs ms t rest u x y) where
     long : length rest ≡ suc j
@@ -90,7 +83,7 @@ module _ {E : Type 0} (K : Algebra E) (vs : List (Visit E)) (ms : List ℕ) (t :
     front_again = sym (take-take (length front) (length rest) ms (omega (arith, long, d))) ∙ ap (take (length front)) (w.front ∙ e) ∙ take-append_seam front (m ∷ [])
 
     -- a later one moves the stop: its prices are added
-    pub walk_moves : u < m → (p q : E) → Priced K vs j u p → Priced K vs j (u + 1) q → (sum : E → E → E) → ((a b : E) → K.size a + K.size b ≤ 2 ^ 50 → sum a b ≡ K.plus a b) →
+    pub walk_moves : u < m → (p q : E) → Priced K vs j u p → Priced K vs j (u + 1) q → (sum : E → E → E) → IsExact K sum →
         (x' y' : E) (u' : ℕ) → x' ≡ sum x p → y' ≡ sum y q → u' ≡ u - (at K vs j).leg → Walked K vs ms t front u' x' y'
     walk_moves h p q pp pq sum exact x' y' u' ex ey eu =
         let r = w.choice.ready in

@@ -1,5 +1,5 @@
 -- The minutes that marks give, and their bill, one stop at a time. Assumes nothing.
-use Rattle.std.proofs.Common.{◌≡◌, ℕ, zero, suc, ◌+◌, ◌-◌, ◌*◌, ◌^◌, ◌<◌, ◌≤◌, min, List, [], ◌∷◌, length, get_or, drop, sym, refl, ap, ◌∙◌, subst, arith}
+use Rattle.std.proofs.Common.{◌≡◌, ℕ, zero, suc, ◌+◌, ◌-◌, ◌*◌, ◌^◌, ◌<◌, ◌≤◌, min, List, [], ◌∷◌, length, get_or, drop, sym, refl, ◌∙◌, subst, add-one, arith}
 use native.Mathlib.Numerals.{unary_clauses}
 use Rattle.cost.specs.Algebra.{Algebra}
 use Rattle.timing.specs.Visits.{Visit, at}
@@ -8,6 +8,14 @@ use Rattle.timing.specs.Minutes.{minutes}
 use Rattle.timing.specs.Sound.{Small}
 use Rattle.timing.specs.Charges.{Served, charged}
 use Rattle.timing.proofs.Forward.{fits_length}
+
+-- p is what stop i costs at minute t, if it can be served then
+abbrev pub Priced : {E : Type 0} → Algebra E → List (Visit E) → ℕ → ℕ → E → Type 0
+Priced K vs i t p = (at K vs i).first ≤ t → t ≤ (at K vs i).last → p ≡ (at K vs i).price t
+
+-- the sums of costs that are not too large are exact
+abbrev pub IsExact : {E : Type 0} → Algebra E → (E → E → E) → Type 0
+IsExact K sum = (a b : _) → K.size a + K.size b ≤ 2 ^ 50 → sum a b ≡ K.plus a b
 
 module _ {E : Type 0} where
   pub minutes_length : (vs : List (Visit E)) (ms : List ℕ) → length (minutes vs ms) ≡ min (length vs) (length ms)
@@ -82,16 +90,19 @@ module _ {E : Type 0} (K : Algebra E) where
     charged_none j e = bill_past vs (drop j (minutes vs ms)) j (omega (arith, served_length))
 
     module _ (j t : ℕ) (h : j < length vs) (e : t ≡ get_or (minutes vs ms) j 0) where
-      pub served_inside : ((at K vs j).first ≤ t) × (t ≤ (at K vs j).last)
-      served_inside = subst (λ x. ((at K vs j).first ≤ x) × (x ≤ (at K vs j).last)) (sym e) (fits_at 0 vs (minutes vs ms) j s.timetable h)
+      inside : ((at K vs j).first ≤ t) × (t ≤ (at K vs j).last)
+      inside = subst (λ x. ((at K vs j).first ≤ x) × (x ≤ (at K vs j).last)) (sym e) (fits_at 0 vs (minutes vs ms) j s.timetable h)
 
-      pub charged_step : charged K vs ms j ≡ K.plus ((at K vs j).price t) (charged K vs ms (j + 1))
-      charged_step =
-          let d : suc j ≡ j + 1 = omega arith in
-          subst (λ n. charged K vs ms j ≡ K.plus ((at K vs j).price t) (charged K vs ms n)) d
-          (bill_step 0 vs (minutes vs ms) j s.timetable h ∙ ap (λ x. K.plus ((at K vs j).price x) (charged K vs ms (suc j))) (sym e))
+      step : K.plus ((at K vs j).price t) (charged K vs ms (j + 1)) ≡ charged K vs ms j
+      step = rw (add-one, e) (sym (bill_step 0 vs (minutes vs ms) j s.timetable h))
 
       -- the sum is exact
-      pub charged_small : K.size ((at K vs j).price t) + K.size (charged K vs ms (j + 1)) ≤ 2 ^ 50
-      charged_small =
-          omega (arith, s.sound.few, small_at vs j t s.sound.small served_inside.0 served_inside.1, rest_size 0 vs (minutes vs ms) (j + 1) s.sound.small s.timetable)
+      small : K.size ((at K vs j).price t) + K.size (charged K vs ms (j + 1)) ≤ 2 ^ 50
+      small =
+          omega (arith, s.sound.few, small_at vs j t s.sound.small inside.0 inside.1, rest_size 0 vs (minutes vs ms) (j + 1) s.sound.small s.timetable)
+
+      -- what stop j costs, added to what those after it cost
+      pub charged_more : (sum : E → E → E) → IsExact K sum → (p total : E) → Priced K vs j t p → total ≡ charged K vs ms (j + 1) → sum p total ≡ charged K vs ms j
+      charged_more sum exact p total pp et =
+          let ep = pp inside.0 inside.1 in
+          rw (ep, et) (exact ((at K vs j).price t) (charged K vs ms (j + 1)) small ∙ step)

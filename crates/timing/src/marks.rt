@@ -25,12 +25,10 @@ impl<L: Line> MarkedLine<'_, L> {
     #[tactic(auto, using(crate::proofs::Blocks::walk_stops))]
     fn block_cost(&self, t: u16) -> (L::Kind, L::Kind)
         requires { t < 65535 }
-        ensures {
-            let K = L.Kind.Cost.algebra in
+        ensures { let K = L.Kind.Cost.algebra in
             let vs = L.visits self.now.line.now in
             let ms = self.now.marks.now in
-            Choice K vs ms t → (L.Kind.Cost.exact result.0, L.Kind.Cost.exact result.1) ≡ block K vs ms t
-        }
+            Choice K vs ms t → (L.Kind.Cost.exact result.0, L.Kind.Cost.exact result.1) ≡ block K vs ms t }
     {
         let next = self.marks.len();
         let mut here = price(self.line, next, t);
@@ -50,12 +48,10 @@ impl<L: Line> MarkedLine<'_, L> {
     // Whether ending at minute t costs at most what ending a minute later costs.
     fn rises(&self, t: u16) -> bool
         requires { t < 65535 }
-        ensures {
-            let K = L.Kind.Cost.algebra in
+        ensures { let K = L.Kind.Cost.algebra in
             let vs = L.visits self.now.line.now in
             let ms = self.now.marks.now in
-            Ready K vs ms → Halves K vs ms t result
-        }
+            Ready K vs ms → Halves K vs ms t result }
     {
         let (here, later) = self.block_cost(t);
         at_most(here, later)
@@ -64,16 +60,14 @@ impl<L: Line> MarkedLine<'_, L> {
     // The mark of the next stop, which can be reached at `soonest`: found by halving what is left of its window.
     #[tactic(auto, using(crate::proofs::Marking::between_all, crate::proofs::Marking::between_one))]
     fn mark_from(&self, soonest: u16) -> u16
-        ensures {
-            let K = L.Kind.Cost.algebra in
+        ensures { let K = L.Kind.Cost.algebra in
             let vs = L.visits self.now.line.now in
             let ms = self.now.marks.now in
-            Ready K vs ms → soonest ≡ reached vs (length ms + 1) → Mark K vs (length ms) result
-        }
+            Ready K vs ms → soonest ≡ reached vs (length ms + 1) → Mark K vs (length ms) result }
     {
         let mut low = soonest;
         let (_, mut high) = span(self.line, self.marks.len());
-        // A `while`: `partition_point` searches a slice, and these are minutes.
+        // By hand, since `partition_point` searches a slice, and these are minutes.
         while low < high {
             let middle = low + (high - low) / 2;
             if self.rises(middle) {
@@ -87,12 +81,10 @@ impl<L: Line> MarkedLine<'_, L> {
 
     // The mark of the next stop, where `marks` are those of the stops before it.
     pub fn next_mark(&self) -> u16
-        ensures {
-            let K = L.Kind.Cost.algebra in
+        ensures { let K = L.Kind.Cost.algebra in
             let vs = L.visits self.now.line.now in
             let ms = self.now.marks.now in
-            Ready K vs ms → Mark K vs (length ms) result
-        }
+            Ready K vs ms → Mark K vs (length ms) result }
     {
         let n = self.marks.len();
         self.mark_from(soonest(self.line, n, arrival(self.line, n)))
@@ -119,6 +111,7 @@ pub fn refresh<L: Line>(line: &L, marks: &mut [u16], from: usize)
     ensures marked { Sound L.Kind.Cost.algebra (L.visits line.now) → Feasible (L.visits line.now) → from ≤ length (L.visits line.now) → length (L.visits line.now) ≤ length marks.old → Marks L.Kind.Cost.algebra (take from (L.visits line.now)) (take from marks.old) → Marks L.Kind.Cost.algebra (L.visits line.now) (take (length (L.visits line.now)) marks.new) }
 {
     let mut ready = arrival(line, from);
+    // By number, since each mark is found from all those before it: an iterator would lend them out.
     for i in from..line.count().min(marks.len()) {
         ready = soonest(line, i, ready);
         write_mark(line, marks, i, ready);

@@ -29,12 +29,10 @@ impl<L: Line> MarkedLine<'_, L> {
     fn count(&self) -> usize
         ensures count { result ≡ min (length (L.visits self.now.line.now)) (length self.now.marks.now) }
         ensures past { (k : ℕ) → result ≤ k → slice_index (minutes (L.visits self.now.line.now) self.now.marks.now) k ≡ 0 }
-        ensures free {
-            let K = L.Kind.Cost.algebra in
+        ensures free { let K = L.Kind.Cost.algebra in
             let vs = L.visits self.now.line.now in
             let ms = self.now.marks.now in
-            Served K vs ms → charged K vs ms result ≡ K.nought
-        }
+            Served K vs ms → charged K vs ms result ≡ K.nought }
     {
         self.line.count().min(self.marks.len())
     }
@@ -43,11 +41,10 @@ impl<L: Line> MarkedLine<'_, L> {
     #[tactic(auto, using(crate::proofs::Timings::minutes_last))]
     fn minute_before(&self, j: usize, next: u16) -> u16
         requires { (j < length (L.visits self.now.line.now)) × (j < length self.now.marks.now) }
-        ensures {
-            let ts = minutes (L.visits self.now.line.now) self.now.marks.now in
-            next ≡ slice_index ts (j + 1) → result ≡ slice_index ts j
-        }
+        ensures { let ts = minutes (L.visits self.now.line.now) self.now.marks.now in
+            next ≡ slice_index ts (j + 1) → result ≡ slice_index ts j }
     {
+        // By number, since a line's stops have no other name.
         let mark = self.marks[j];
         if j + 1 < self.count() {
             mark.min(latest_before(self.line, j + 1, next))
@@ -69,24 +66,20 @@ impl<L: Line> MarkedLine<'_, L> {
 
     // The cost of the stops from j on, where those after j cost `total` and j is served at `minute`.
     fn charge(&self, j: usize, minute: u16, total: L::Kind) -> L::Kind
-        ensures {
-            let K = L.Kind.Cost.algebra in
+        ensures { let K = L.Kind.Cost.algebra in
             let vs = L.visits self.now.line.now in
             let ms = self.now.marks.now in
-            Served K vs ms → j < length vs → minute ≡ slice_index (minutes vs ms) j → L.Kind.Cost.exact total ≡ charged K vs ms (j + 1) → L.Kind.Cost.exact result ≡ charged K vs ms j
-        }
+            Served K vs ms → j < length vs → minute ≡ slice_index (minutes vs ms) j → L.Kind.Cost.exact total ≡ charged K vs ms (j + 1) → L.Kind.Cost.exact result ≡ charged K vs ms j }
     {
         price(self.line, j, minute).plus(total)
     }
 
     // The cost of the timetable that the marks give.
     pub fn least(&self) -> L::Kind
-        ensures {
-            let K = L.Kind.Cost.algebra in
+        ensures { let K = L.Kind.Cost.algebra in
             let vs = L.visits self.now.line.now in
             let ms = self.now.marks.now in
-            Sound K vs → Timetable vs (minutes vs ms) → L.Kind.Cost.exact result ≡ bill K vs (minutes vs ms)
-        }
+            Sound K vs → Timetable vs (minutes vs ms) → L.Kind.Cost.exact result ≡ bill K vs (minutes vs ms) }
     {
         let mut total = L::Kind::nought();
         let mut next = 0;
