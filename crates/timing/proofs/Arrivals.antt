@@ -1,7 +1,7 @@
 -- The soonest minutes, one stop further. Assumes nothing.
-use Rattle.std.proofs.Common.{◌≡◌, ℕ, suc, ◌+◌, ◌-◌, ◌<◌, ◌≤◌, min, max, leb, ◌↔◌, List, length, take, Some, None, sym, ap, ◌∙◌, subst, ⊎_elim, add-one, arith, take_all}
-use native.Mathlib.Decide.{dec_le}
-use Rattle.std.proofs.lemmas.Bool.{cases_Bool, cond-true, cond-false, leb-true, leb-false}
+use Rattle.std.proofs.Common.{◌≡◌, ℕ, suc, ◌+◌, ◌-◌, ◌<◌, ◌≤◌, min, max, ◌↔◌, List, length, take, Some, None, sym, ap, ◌∙◌, subst, add-one, arith, take_all}
+use Rattle.std.proofs.Math.Decide.{dec_le}
+use Rattle.std.proofs.lemmas.Bool.Decides.{nat_tests}
 use Rattle.cost.specs.Algebra.{Algebra}
 use Rattle.timing.specs.Visits.{Visit, at}
 use Rattle.timing.specs.Timetables.{Timetable, Feasible}
@@ -11,18 +11,10 @@ use Rattle.timing.proofs.Neighbours.{arrive_step, reaches_step}
 
 module _ {E : Type 0} (p : ℕ) (v : Visit E) where
   pub served_some : (t : ℕ) → Some t ≡ served p v → (t ≡ soon p v) × (soon p v ≤ v.last)
-  served_some t e =
-      ⊎_elim
-      (λ h. let f = cond-true (leb (soon p v) v.last) (Some (soon p v)) None h in (cc, leb-true (soon p v) v.last h))
-      (λ h. let f = cond-false (leb (soon p v) v.last) (Some (soon p v)) None h in let z : ◌≡◌ {A = ℕ} 0 1 = cc in absurd (omega arith))
-      (cases_Bool (leb (soon p v) v.last))
+  served_some t e = grind (arith, nat_tests)
 
   pub served_none : None ≡ served p v → v.last < soon p v
-  served_none e =
-      ⊎_elim
-      (λ h. let f = cond-true (leb (soon p v) v.last) (Some (soon p v)) None h in let z : ◌≡◌ {A = ℕ} 0 1 = cc in absurd (omega arith))
-      (λ h. leb-false (soon p v) v.last h)
-      (cases_Bool (leb (soon p v) v.last))
+  served_none e = grind (arith, nat_tests)
 
 module _ {E : Type 0} (K : Algebra E) (vs : List (Visit E)) (i : ℕ) (h : i < length vs) where
   pub arrive_next : arrive 0 (take (i + 1) vs) ≡ soon (arrive 0 (take i vs)) (at K vs i)

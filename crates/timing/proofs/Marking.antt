@@ -1,7 +1,8 @@
 -- The search for the next mark. Assumes nothing.
 use Rattle.std.proofs.Common.{◌≡◌, ℕ, suc, ◌+◌, ◌-◌, ◌<◌, ◌≤◌, Bool, true, false, not, ◌↔◌, List, [], ◌∷◌, reverse, length, get_or, take, sym, refl, ap, ◌∙◌, subst, add-one, arith, length-take, take-take}
 use mathlib.Core.List.{reverse_aux}
-use native.Mathlib.Decide.{dec_le}
+use Rattle.std.proofs.lemmas.Bool.{not-true, not-false}
+use Rattle.std.proofs.Math.Decide.{dec_le}
 use Rattle.cost.specs.Algebra.{Algebra, Less, Most}
 use Rattle.timing.specs.Visits.{Visit, nowhere, at}
 use Rattle.cost.specs.Convex.{Convex}
@@ -77,16 +78,8 @@ module _ {E : Type 0} (K : Algebra E) (vs : List (Visit E)) (ms : List ℕ) (r :
 
   -- comparing the block at t and at t + 1 tells on which side of t the mark lies
   block_tells : (t : ℕ) → arrive 0 (take (suc (length ms)) vs) ≤ t → t < (at K vs (length ms)).last → (b : Bool) → b ≡ not (K.less (block K vs ms t).1 (block K vs ms t).0) → Tells t b
-  block_tells t h k b e m mark = (λ q. below (least_of b (K.less (block K vs ms t).1 (block K vs ms t).0) e q), λ q. above (more_of b (K.less (block K vs ms t).1 (block K vs ms t).0) e q))
+  block_tells t h k b e m mark = (λ q. below (not-true _ (sym e ∙ q)), λ q. above (not-false _ (sym e ∙ q)))
     where
-      least_of : (x y : Bool) → x ≡ not y → x ≡ true → y ≡ false
-      least_of x true d q = sym q ∙ d
-      least_of x false d q = refl
-
-      more_of : (x y : Bool) → x ≡ not y → x ≡ false → y ≡ true
-      more_of x true d q = refl
-      more_of x false d q = sym q ∙ d
-
       f : ℕ → E
       f = ending K (at K vs (length ms)) (back vs (length ms)) (back ms (length ms))
 

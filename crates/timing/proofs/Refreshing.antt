@@ -1,6 +1,6 @@
 -- One more mark written behind the others. Assumes nothing.
 use Rattle.std.proofs.Common.{◌≡◌, ℕ, suc, ◌+◌, ◌<◌, ◌≢◌, List, length, get_or, take, set, sym, ap, ◌∙◌, subst, arith, length-set, length-take, length-take-le, take_all, get_or-set_other, get_or-take, get_or-set_same, take-take}
-use native.Mathlib.Decide.{dec_le}
+use Rattle.std.proofs.Math.Decide.{dec_le}
 use Rattle.cost.specs.Algebra.{Algebra}
 use Rattle.timing.specs.Visits.{Visit}
 use Rattle.timing.specs.Timetables.{Feasible}

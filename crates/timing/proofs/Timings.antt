@@ -1,6 +1,7 @@
 -- The minutes that marks give, and their bill, one stop at a time. Assumes nothing.
-use Rattle.std.proofs.Common.{◌≡◌, ℕ, zero, suc, ◌+◌, ◌-◌, ◌*◌, ◌^◌, ◌<◌, ◌≤◌, min, List, [], ◌∷◌, length, get_or, drop, sym, refl, ◌∙◌, subst, add-one, arith}
-use native.Mathlib.Numerals.{unary_clauses}
+use Rattle.std.proofs.Common.{◌≡◌, ℕ, zero, suc, ◌+◌, ◌-◌, ◌*◌, ◌^◌, ◌<◌, ◌≤◌, min, List, [], ◌∷◌, length, get_or, drop, sym, refl, ap, ◌∙◌, subst, add-one, arith}
+use Rattle.std.proofs.lemmas.List.{drop_all, get_or_past}
+use Rattle.std.proofs.Math.Numerals.{unary_clauses}
 use Rattle.cost.specs.Algebra.{Algebra}
 use Rattle.timing.specs.Visits.{Visit, at}
 use Rattle.timing.specs.Timetables.{Fits, bill}
@@ -24,10 +25,7 @@ module _ {E : Type 0} where
   minutes_length (v ∷ vs) (m ∷ ms) = omega (arith, minutes_length vs ms)
 
   pub minutes_past : (vs : List (Visit E)) (ms : List ℕ) (k : ℕ) → min (length vs) (length ms) ≤ k → get_or (minutes vs ms) k 0 ≡ 0
-  minutes_past [] ms k h = refl
-  minutes_past (v ∷ vs) [] k h = refl
-  minutes_past (v ∷ vs) (m ∷ ms) zero h = absurd (omega arith)
-  minutes_past (v ∷ vs) (m ∷ ms) (suc k) h = minutes_past vs ms k (omega arith)
+  minutes_past vs ms k h = get_or_past (minutes vs ms) k 0 (omega (arith, minutes_length vs ms))
 
   -- the last stop that has a mark is served then
   pub minutes_last : (vs : List (Visit E)) (ms : List ℕ) (j : ℕ) → j < length vs → j < length ms → min (length vs) (length ms) ≤ suc j → get_or (minutes vs ms) j 0 ≡ get_or ms j 0
@@ -76,18 +74,12 @@ module _ {E : Type 0} (K : Algebra E) where
   rest_size p (v ∷ vs) [] (suc j) s f = absurd f
   rest_size p (v ∷ vs) (t ∷ ts) (suc j) s f = omega (arith, rest_size t vs ts j s.1 f.3)
 
-  pub bill_past : (vs : List (Visit E)) (ts : List ℕ) (j : ℕ) → length vs ≤ j → bill K (drop j vs) ts ≡ K.nought
-  bill_past [] ts zero h = refl
-  bill_past [] ts (suc j) h = refl
-  bill_past (v ∷ vs) ts zero h = absurd (omega arith)
-  bill_past (v ∷ vs) ts (suc j) h = bill_past vs ts j (omega arith)
-
   module _ (vs : List (Visit E)) (ms : List ℕ) (s : Served K vs ms) where
     served_length : length vs ≤ length ms
     served_length = omega (arith, minutes_length vs ms, fits_length 0 vs (minutes vs ms) s.timetable)
 
     pub charged_none : (j : ℕ) → j ≡ min (length vs) (length ms) → charged K vs ms j ≡ K.nought
-    charged_none j e = bill_past vs (drop j (minutes vs ms)) j (omega (arith, served_length))
+    charged_none j e = ap (λ ws. bill K ws (drop j (minutes vs ms))) (drop_all j vs (omega (arith, served_length)))
 
     module _ (j t : ℕ) (h : j < length vs) (e : t ≡ get_or (minutes vs ms) j 0) where
       inside : ((at K vs j).first ≤ t) × (t ≤ (at K vs j).last)
