@@ -1,5 +1,5 @@
 -- The walk over the block of stops that move, by index. Assumes nothing.
-use Rattle.std.proofs.Common.{◌≡◌, ℕ, suc, ◌+◌, ◌-◌, ◌*◌, ◌^◌, ◌<◌, ◌≤◌, cond, leb, List, [], ◌∷◌, ◌++◌, reverse, length, take, sym, ap, ◌∙◌, subst, ap₂, subst₂, arith, take-take}
+use Rattle.std.proofs.Common.{◌≡◌, ℕ, suc, ◌+◌, ◌-◌, ◌*◌, ◌^◌, ◌<◌, ◌≤◌, cond, leb, List, [], ◌∷◌, ◌++◌, reverse, length, take, sym, refl, ap, ◌∙◌, subst, ap₂, subst₂, arith, take-take}
 use Rattle.std.proofs.Math.Seq.{take-length, take-append_seam}
 use Rattle.std.proofs.lemmas.List.{length_push, length-take, reverse-append}
 use Rattle.std.proofs.lemmas.Bool.{cond-true, cond-false, le-leb, lt-leb}
@@ -12,7 +12,7 @@ use Rattle.timing.specs.Back.{reach, Marked}
 use Rattle.timing.proofs.Theorems.{marks_take}
 use Rattle.timing.proofs.Searches.{marks_back}
 use Rattle.timing.proofs.Steps.{reverse_take}
-use Rattle.timing.proofs.Timings.{Priced, IsExact, small_at}
+use Rattle.timing.proofs.Timings.{Priced, IsExact, priced_small}
 use Rattle.timing.proofs.Marking.{next_reach}
 
 -- with `rest` the marks of the stops that are left to walk, u the minute left for the last of them, and x and y charged
@@ -24,17 +24,17 @@ pub record Walked {E : Type 0} (K : Algebra E) (vs : List (Visit E)) (ms : List 
   pub small_y : K.size y ≤ (length ms + 1 - length rest) * 2 ^ 40
   pub left : walk K (back vs (length rest)) (reverse rest) u x y ≡ block K vs ms t
 
-module _ {E : Type 0} (K : Algebra E) (vs : List (Visit E)) (ms : List ℕ) (t : ℕ) where
-  pub walk_starts : (rest : List ℕ) (u : ℕ) (x y : E) → rest ≡ ms → u ≡ t - (at K vs (length ms)).leg → Priced K vs (length ms) t x → Priced K vs (length ms) (t + 1) y → Choice K vs ms t → Walked K vs ms t rest u x y
-  walk_starts rest u x y same e px py c =
+module _ {E : Type 0} {K : Algebra E} {vs : List (Visit E)} {ms : List ℕ} {t : ℕ} where
+  pub walk_starts : {rest : List ℕ} {u : ℕ} {x y : E} → rest ≡ ms → u ≡ t - (at K vs (length ms)).leg → Priced K vs (length ms) t x → Priced K vs (length ms) (t + 1) y → Choice K vs ms t → Walked K vs ms t rest u x y
+  walk_starts {rest} {u} {x} {y} same e px py c =
       let next : ℕ = length ms in
       let long : length rest ≡ next = ap length same in
       let h : reach (at K vs next ∷ back vs next) ≤ t = subst (λ z. z ≤ t) (next_reach K vs ms c.ready) c.from in
       let last : t + 1 ≤ (at K vs next).last = omega (arith, c.to) in
       let d = px (omega arith) (omega arith) in
       let e' = py (omega arith) last in
-      let sx : K.size x ≤ 2 ^ 40 = subst (λ z. K.size z ≤ 2 ^ 40) (sym d) (small_at K vs next t c.ready.sound.small (omega arith) (omega arith)) in
-      let sy : K.size y ≤ 2 ^ 40 = subst (λ z. K.size z ≤ 2 ^ 40) (sym e') (small_at K vs next (t + 1) c.ready.sound.small (omega arith) last) in
+      let sx : K.size x ≤ 2 ^ 40 = priced_small K vs next t x c.ready.sound.small (omega arith) (omega arith) px in
+      let sy : K.size y ≤ 2 ^ 40 = priced_small K vs next (t + 1) y c.ready.sound.small (omega arith) last py in
       record {
         choice = c;
         front = ap (λ n. take n ms) long ∙ take-length ms ∙ sym same;
@@ -48,7 +48,7 @@ module _ {E : Type 0} (K : Algebra E) (vs : List (Visit E)) (ms : List ℕ) (t :
             ∙ ap₂ (walk K (back vs next) (back ms next) (t - (at K vs next).leg)) d e';
       }
 
-  module _ (rest front : List ℕ) (m u j : ℕ) (x y : E) (e : rest ≡ front ++ m ∷ []) (d : j ≡ length front) (w : Walked K vs ms t rest u x y) where
+  module _ {rest : List ℕ} {u : ℕ} {x y : E} (front : List ℕ) (m j : ℕ) (e : rest ≡ front ++ m ∷ []) (d : j ≡ length front) (w : Walked K vs ms t rest u x y) where
     long : length rest ≡ suc j
     long = omega (arith, ap length e, length_push front m)
 
@@ -66,10 +66,6 @@ module _ {E : Type 0} (K : Algebra E) (vs : List (Visit E)) (ms : List ℕ) (t :
 
     step : cond (leb m u) (x, y) (walk K (back vs (length front)) (reverse front) (u - (at K vs j).leg) (K.plus x ((at K vs j).price u)) (K.plus y ((at K vs j).price (u + 1)))) ≡ block K vs ms t
     step = subst₂ (λ a b. walk K a b u x y ≡ block K vs ms t) back_stop back_mark w.left
-
-    -- a mark that is kept ends the block
-    pub walk_stops : m ≤ u → (x, y) ≡ block K vs ms t
-    walk_stops h = sym (cond-true (leb m u) _ _ (le-leb m u h)) ∙ step
 
     -- the marks are within the windows
     marked_here : Marked K (at K vs j ∷ back vs (length front)) (m ∷ reverse front)
@@ -92,8 +88,8 @@ module _ {E : Type 0} (K : Algebra E) (vs : List (Visit E)) (ms : List ℕ) (t :
         let last : u + 1 ≤ (at K vs j).last = omega (arith, marked_here.0.to) in
         let dp = pp first (omega arith) in
         let dq = pq (omega arith) last in
-        let sp : K.size p ≤ 2 ^ 40 = subst (λ z. K.size z ≤ 2 ^ 40) (sym dp) (small_at K vs j u r.sound.small first (omega arith)) in
-        let sq : K.size q ≤ 2 ^ 40 = subst (λ z. K.size z ≤ 2 ^ 40) (sym dq) (small_at K vs j (u + 1) r.sound.small (omega arith) last) in
+        let sp : K.size p ≤ 2 ^ 40 = priced_small K vs j u p r.sound.small first (omega arith) pp in
+        let sq : K.size q ≤ 2 ^ 40 = priced_small K vs j (u + 1) q r.sound.small (omega arith) last pq in
         let fx = ex ∙ exact x p (omega (arith, long, w.small_x, r.more, r.sound.few)) in
         let fy = ey ∙ exact y q (omega (arith, long, w.small_y, r.more, r.sound.few)) in
         record {
@@ -108,3 +104,7 @@ module _ {E : Type 0} (K : Algebra E) (vs : List (Visit E)) (ms : List ℕ) (t :
               ∙ sym (cond-false (leb m u) _ _ (lt-leb m u h))
               ∙ step;
         }
+
+  -- a mark that is kept ends the block
+  pub walk_stops : {rest : List ℕ} {u : ℕ} {x y : E} (front : List ℕ) (m : ℕ) → Walked K vs ms t rest u x y → rest ≡ front ++ m ∷ [] → m ≤ u → (x, y) ≡ block K vs ms t
+  walk_stops {u = u} front m w e h = sym (cond-true (leb m u) _ _ (le-leb m u h)) ∙ step front m (length front) e refl w

@@ -57,10 +57,13 @@ module _ {E : Type 0} (K : Algebra E) where
   bill_step p (v ∷ vs) (t ∷ ts) zero f h = refl
   bill_step p (v ∷ vs) (t ∷ ts) (suc j) f h = bill_step t vs ts j f.3 (omega arith)
 
-  pub small_at : (vs : List (Visit E)) (j t : ℕ) → Small K vs → (at K vs j).first ≤ t → t ≤ (at K vs j).last → K.size ((at K vs j).price t) ≤ 2 ^ 40
+  small_at : (vs : List (Visit E)) (j t : ℕ) → Small K vs → (at K vs j).first ≤ t → t ≤ (at K vs j).last → K.size ((at K vs j).price t) ≤ 2 ^ 40
   small_at [] j t s h k = absurd (omega arith)
   small_at (v ∷ vs) zero t s h k = s.0 t h k
   small_at (v ∷ vs) (suc j) t s h k = small_at vs j t s.1 h k
+
+  pub priced_small : (vs : List (Visit E)) (j t : ℕ) (p : E) → Small K vs → (at K vs j).first ≤ t → t ≤ (at K vs j).last → Priced K vs j t p → K.size p ≤ 2 ^ 40
+  priced_small vs j t p s h k pp = rw (pp h k) (small_at vs j t s h k)
 
   pub bill_size : (p : ℕ) (vs : List (Visit E)) (ts : List ℕ) → Small K vs → Fits p vs ts → K.size (bill K vs ts) ≤ length vs * 2 ^ 40
   bill_size p [] ts s f = omega (arith, K.size_nought)

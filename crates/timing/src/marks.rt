@@ -95,7 +95,9 @@ impl<L: Line> MarkedLine<'_, L> {
 fn write_mark<L: Line>(line: &L, marks: &mut [u16], i: usize, soonest: u16)
     requires { i < length marks.old }
     ensures others { (k : ℕ) → (k ≢ i) → slice_index marks.new k ≡ slice_index marks.old k }
-    ensures marked { Sound L.Kind.Cost.algebra (L.visits line.now) → Feasible (L.visits line.now) → i < length (L.visits line.now) → soonest ≡ reached (L.visits line.now) (i + 1) → Marks L.Kind.Cost.algebra (take i (L.visits line.now)) (take i marks.old) → Marks L.Kind.Cost.algebra (take (i + 1) (L.visits line.now)) (take (i + 1) marks.new) }
+    ensures marked { let K = L.Kind.Cost.algebra in
+        let vs = L.visits line.now in
+        Sound K vs → Feasible vs → i < length vs → soonest ≡ reached vs (i + 1) → Marks K (take i vs) (take i marks.old) → Marks K (take (i + 1) vs) (take (i + 1) marks.new) }
 {
     let front = MarkedLine {
         line,
@@ -108,7 +110,9 @@ fn write_mark<L: Line>(line: &L, marks: &mut [u16], i: usize, soonest: u16)
 pub fn refresh<L: Line>(line: &L, marks: &mut [u16], from: usize)
     ensures before { (k : ℕ) → k < from → slice_index marks.new k ≡ slice_index marks.old k }
     ensures after { (k : ℕ) → length (L.visits line.now) ≤ k → slice_index marks.new k ≡ slice_index marks.old k }
-    ensures marked { Sound L.Kind.Cost.algebra (L.visits line.now) → Feasible (L.visits line.now) → from ≤ length (L.visits line.now) → length (L.visits line.now) ≤ length marks.old → Marks L.Kind.Cost.algebra (take from (L.visits line.now)) (take from marks.old) → Marks L.Kind.Cost.algebra (L.visits line.now) (take (length (L.visits line.now)) marks.new) }
+    ensures marked { let K = L.Kind.Cost.algebra in
+        let vs = L.visits line.now in
+        Sound K vs → Feasible vs → from ≤ length vs → length vs ≤ length marks.old → Marks K (take from vs) (take from marks.old) → Marks K vs (take (length vs) marks.new) }
 {
     let mut ready = arrival(line, from);
     // By number, since each mark is found from all those before it: an iterator would lend them out.

@@ -18,7 +18,8 @@ pub(crate) fn latest_before<L: Line>(line: &L, i: usize, minute: u16) -> u16
 
 // The cost of stop j at a minute, and nought where it has none.
 pub(crate) fn price<L: Line>(line: &L, j: usize, minute: u16) -> L::Kind
-    ensures { (at L.Kind.Cost.algebra (L.visits line.now) j).first ≤ minute → minute ≤ (at L.Kind.Cost.algebra (L.visits line.now) j).last → L.Kind.Cost.exact result ≡ (at L.Kind.Cost.algebra (L.visits line.now) j).price minute }
+    ensures { let v = at L.Kind.Cost.algebra (L.visits line.now) j in
+        v.first ≤ minute → minute ≤ v.last → L.Kind.Cost.exact result ≡ v.price minute }
 {
     line.cost(j, minute).unwrap_or(L::Kind::nought())
 }

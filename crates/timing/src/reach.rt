@@ -39,7 +39,8 @@ pub(crate) fn span<L: Line>(line: &L, i: usize) -> (u16, u16)
 
 // The soonest minute of stop i, where the stop before it is left at minute `ready`, as far as 16 bits count.
 pub(crate) fn soonest<L: Line>(line: &L, i: usize, ready: u16) -> u16
-    ensures { i < length (L.visits line.now) → ready ≡ reached (L.visits line.now) i → result ≡ reached (L.visits line.now) (i + 1) }
+    ensures { let vs = L.visits line.now in
+        i < length vs → ready ≡ reached vs i → result ≡ reached vs (i + 1) }
 {
     span(line, i).0.max(ready.saturating_add(line.leg(i)))
 }
