@@ -1,7 +1,7 @@
 -- The soonest minutes, one stop further. Assumes nothing.
-use Rattle.std.proofs.Common.{◌≡◌, ℕ, suc, ◌+◌, ◌-◌, ◌<◌, ◌≤◌, min, max, leb, ◌↔◌, List, length, take, Some, None, sym, ap, ◌∙◌, subst, ⊎_elim, add-one, arith, take_all}
-use native.Mathlib.Decide.{dec_le}
-use Rattle.std.proofs.lemmas.Bool.{cases_Bool, cond-true, cond-false, leb-true, leb-false}
+use Rattle.std.proofs.Common.{◌≡◌, ℕ, suc, ◌+◌, ◌-◌, ◌<◌, ◌≤◌, min, max, ◌↔◌, List, length, take, Some, None, sym, ap, ◌∙◌, subst, add-one, arith, take_all}
+use Rattle.std.proofs.Math.Decide.{dec_le}
+use Rattle.std.proofs.lemmas.Bool.Decides.{nat_tests}
 use Rattle.cost.specs.Algebra.{Algebra}
 use Rattle.timing.specs.Visits.{Visit, at}
 use Rattle.timing.specs.Timetables.{Timetable, Feasible}
@@ -11,18 +11,10 @@ use Rattle.timing.proofs.Neighbours.{arrive_step, reaches_step}
 
 module _ {E : Type 0} (p : ℕ) (v : Visit E) where
   pub served_some : (t : ℕ) → Some t ≡ served p v → (t ≡ soon p v) × (soon p v ≤ v.last)
-  served_some t e =
-      ⊎_elim
-      (λ h. let f = cond-true (leb (soon p v) v.last) (Some (soon p v)) None h in (cc, leb-true (soon p v) v.last h))
-      (λ h. let f = cond-false (leb (soon p v) v.last) (Some (soon p v)) None h in let z : ◌≡◌ {A = ℕ} 0 1 = cc in absurd (omega arith))
-      (cases_Bool (leb (soon p v) v.last))
+  served_some t e = grind (arith, nat_tests)
 
   pub served_none : None ≡ served p v → v.last < soon p v
-  served_none e =
-      ⊎_elim
-      (λ h. let f = cond-true (leb (soon p v) v.last) (Some (soon p v)) None h in let z : ◌≡◌ {A = ℕ} 0 1 = cc in absurd (omega arith))
-      (λ h. leb-false (soon p v) v.last h)
-      (cases_Bool (leb (soon p v) v.last))
+  served_none e = grind (arith, nat_tests)
 
 module _ {E : Type 0} (K : Algebra E) (vs : List (Visit E)) (i : ℕ) (h : i < length vs) where
   pub arrive_next : arrive 0 (take (i + 1) vs) ≡ soon (arrive 0 (take i vs)) (at K vs i)
@@ -56,11 +48,11 @@ all_served vs i h r = (feasible_reaches vs).1 (subst (Reaches 0) (take_all i vs 
 
 module _ {E : Type 0} (vs : List (Visit E)) where
   -- past the last stop no minute is added
-  pub reached_all : (i n : ℕ) → i ≡ min n (length vs) → reached vs i ≡ reached vs n
-  reached_all i n e = elim (dec_le n (length vs)) [
+  pub reached_all : (n : ℕ) → reached vs n ≡ reached vs (min n (length vs))
+  reached_all n = elim (dec_le n (length vs)) [
     | yes h ↦ ap (reached vs) (omega arith)
-    | no h ↦ ap (λ ws. min (arrive 0 ws) 65535) (take_all i vs (omega arith) ∙ sym (take_all n vs (omega arith)))
+    | no h ↦ ap (λ ws. min (arrive 0 ws) 65535) (take_all n vs (omega arith) ∙ sym (take_all (min n (length vs)) vs (omega arith)))
   ]
 
-  pub reached_next : (K : Algebra E) (i p first leg : ℕ) → i < length vs → p ≡ reached vs i → first ≡ (at K vs i).first → leg ≡ (at K vs i).leg → first < 65536 → max first (min (p + leg) 65535) ≡ reached vs (i + 1)
-  reached_next K i p first leg h e a b few = omega (arith, arrive_next K vs i h)
+  pub reached_next : (K : Algebra E) (i : ℕ) → i < length vs → reached vs (i + 1) ≡ min (max (at K vs i).first (reached vs i + (at K vs i).leg)) 65535
+  reached_next K i h = omega (arith, arrive_next K vs i h)

@@ -1,6 +1,6 @@
 -- Convex rows of costs over the minutes a to b, and their earliest lowest place. Assumes nothing.
 use Rattle.std.proofs.Common.{◌≡◌, ℕ, zero, suc, ◌+◌, ◌-◌, ◌<◌, ◌≤◌, min, ◌⊎◌, refl, ap, subst, inl, inr, arith}
-use native.Mathlib.Decide.{dec_le}
+use Rattle.std.proofs.Math.Decide.{dec_le}
 use Rattle.cost.specs.Algebra.{Algebra, Less, Most}
 use Rattle.cost.specs.Convex.{Convex}
 use Rattle.timing.specs.Back.{Lowest}

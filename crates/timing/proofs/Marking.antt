@@ -1,7 +1,8 @@
 -- The search for the next mark. Assumes nothing.
-use Rattle.std.proofs.Common.{◌≡◌, ℕ, suc, ◌+◌, ◌-◌, ◌<◌, ◌≤◌, Bool, true, false, not, ◌↔◌, List, [], ◌∷◌, reverse, length, get_or, take, sym, refl, ap, ◌∙◌, subst, arith, length-take, take-take}
+use Rattle.std.proofs.Common.{◌≡◌, ℕ, suc, ◌+◌, ◌-◌, ◌<◌, ◌≤◌, Bool, true, false, not, ◌↔◌, List, [], ◌∷◌, reverse, length, get_or, take, sym, refl, ap, ◌∙◌, subst, add-one, arith, length-take, take-take}
 use mathlib.Core.List.{reverse_aux}
-use native.Mathlib.Decide.{dec_le}
+use Rattle.std.proofs.lemmas.Bool.{not-true, not-false}
+use Rattle.std.proofs.Math.Decide.{dec_le}
 use Rattle.cost.specs.Algebra.{Algebra, Less, Most}
 use Rattle.timing.specs.Visits.{Visit, nowhere, at}
 use Rattle.cost.specs.Convex.{Convex}
@@ -77,16 +78,8 @@ module _ {E : Type 0} (K : Algebra E) (vs : List (Visit E)) (ms : List ℕ) (r :
 
   -- comparing the block at t and at t + 1 tells on which side of t the mark lies
   block_tells : (t : ℕ) → arrive 0 (take (suc (length ms)) vs) ≤ t → t < (at K vs (length ms)).last → (b : Bool) → b ≡ not (K.less (block K vs ms t).1 (block K vs ms t).0) → Tells t b
-  block_tells t h k b e m mark = (λ q. below (least_of b (K.less (block K vs ms t).1 (block K vs ms t).0) e q), λ q. above (more_of b (K.less (block K vs ms t).1 (block K vs ms t).0) e q))
+  block_tells t h k b e m mark = (λ q. below (not-true _ (sym e ∙ q)), λ q. above (not-false _ (sym e ∙ q)))
     where
-      least_of : (x y : Bool) → x ≡ not y → x ≡ true → y ≡ false
-      least_of x true d q = sym q ∙ d
-      least_of x false d q = refl
-
-      more_of : (x y : Bool) → x ≡ not y → x ≡ false → y ≡ true
-      more_of x true d q = refl
-      more_of x false d q = sym q ∙ d
-
       f : ℕ → E
       f = ending K (at K vs (length ms)) (back vs (length ms)) (back ms (length ms))
 
@@ -111,25 +104,25 @@ module _ {E : Type 0} (K : Algebra E) (vs : List (Visit E)) (ms : List ℕ) (r :
         | no d ↦ omega arith
       ]
 
-  pub block_halves : (t : ℕ) (b : Bool) → (Choice K vs ms t → b ≡ not (K.less (block K vs ms t).1 (block K vs ms t).0)) → Halves K vs ms t b
+  -- with the block costing x at t and y at t + 1, the comparison narrows the bounds
+  pub block_halves : (t : ℕ) (b : Bool) (x y : E) → (Choice K vs ms t → (x, y) ≡ block K vs ms t) → b ≡ not (K.less y x) → Halves K vs ms t b
   unfolding Between
-  block_halves t b e low high w h k =
+  block_halves t b x y is e low high w h k =
       let choice : Choice K vs ms t = record { ready = r; from = omega (arith, w.from); to = omega (arith, w.to) } in
-      let tells = block_tells t choice.from choice.to b (e choice) in (
+      let tells = block_tells t choice.from choice.to b (e ∙ ap (λ (p : E × E). not (K.less p.1 p.0)) (is choice)) in (
         λ q. record { from = w.from; to = omega (arith, w.to); mark = λ m mark. ((w.mark m mark).0, (tells m mark).0 q) },
         λ q. record { from = omega (arith, w.from); to = w.to; mark = λ m mark. let z = (tells m mark).1 q in (omega arith, (w.mark m mark).1) },
       )
 
-  pub between_all : (s : ℕ) → s ≡ reached vs (length ms + 1) → (at K vs (length ms)).last ≤ 65535 → Between K vs ms s (at K vs (length ms)).last
+  pub between_all : (low high : ℕ) → low ≡ reached vs (length ms + 1) → high ≡ (at K vs (length ms)).last → high ≤ 65535 → Between K vs ms low high
   unfolding Between
-  between_all s e few =
-      let d : suc (length ms) ≡ length ms + 1 = omega arith in
-      let e' : s ≡ reached vs (suc (length ms)) = e ∙ ap (reached vs) (sym d) in
+  between_all low high e d few =
+      let e' : low ≡ reached vs (suc (length ms)) = e ∙ ap (reached vs) (add-one (length ms)) in
       let h = next_inside in
       record {
         from = omega arith;
         to = omega arith;
-        mark = λ m mark. let low = mark_lowest m mark in (omega (arith, low.from, next_reach), low.to);
+        mark = λ m mark. let l = mark_lowest m mark in (omega (arith, l.from, next_reach), omega (arith, l.to));
       }
 
   pub between_one : (low high : ℕ) → high ≤ low → Between K vs ms low high → Mark K vs (length ms) low

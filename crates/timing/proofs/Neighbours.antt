@@ -1,6 +1,6 @@
 -- Which minute of the last stop is best is told by comparing neighbours; which stop cannot be reached, by its soonest minute. Assumes nothing.
 use Rattle.std.proofs.Common.{◌≡◌, ℕ, zero, suc, ◌+◌, ◌-◌, ◌<◌, ◌≤◌, max, ◌↔◌, List, [], ◌∷◌, reverse, length, get_or, take, sym, refl, ap, ◌∙◌, subst, subst₂, arith}
-use native.Mathlib.Decide.{dec_le}
+use Rattle.std.proofs.Math.Decide.{dec_le}
 use Rattle.std.proofs.lemmas.List.{reverse-reverse}
 use Rattle.cost.specs.Algebra.{Algebra, Most}
 use Rattle.timing.specs.Visits.{Visit}

@@ -1,21 +1,22 @@
 -- One more mark written behind the others. Assumes nothing.
 use Rattle.std.proofs.Common.{◌≡◌, ℕ, suc, ◌+◌, ◌<◌, ◌≢◌, List, length, get_or, take, set, sym, ap, ◌∙◌, subst, arith, length-set, length-take, length-take-le, take_all, get_or-set_other, get_or-take, get_or-set_same, take-take}
-use native.Mathlib.Decide.{dec_le}
+use Rattle.std.proofs.Math.Decide.{dec_le}
 use Rattle.cost.specs.Algebra.{Algebra}
 use Rattle.timing.specs.Visits.{Visit}
 use Rattle.timing.specs.Timetables.{Feasible}
 use Rattle.timing.specs.Marks.{Mark, Marks}
+use Rattle.timing.specs.Reach.{reached}
 use Rattle.timing.specs.Sound.{Sound}
 use Rattle.timing.specs.Ready.{Ready}
 use Rattle.timing.proofs.Firsts.{feasible_take}
 use Rattle.timing.proofs.Neighbours.{mark_front}
 
-module _ {E : Type 0} (K : Algebra E) (vs : List (Visit E)) (ms : List ℕ) (i : ℕ) (more : i < length vs) (room : i < length ms) (marks : Marks K (take i vs) (take i ms)) where
-  pub front_length : length (take i ms) ≡ i
+module _ {E : Type 0} (K : Algebra E) (vs : List (Visit E)) (ms : List ℕ) (i : ℕ) (sound : Sound K vs) (feasible : Feasible vs) (more : i < length vs) (room : i < length ms) (marks : Marks K (take i vs) (take i ms)) where
+  front_length : length (take i ms) ≡ i
   front_length = length-take-le i ms (omega arith)
 
-  pub front_ready : Sound K vs → Feasible vs → Ready K vs (take i ms)
-  front_ready sound feasible =
+  front_ready : Ready K vs (take i ms)
+  front_ready =
       let n = front_length in
       record {
         sound = sound;
@@ -24,9 +25,13 @@ module _ {E : Type 0} (K : Algebra E) (vs : List (Visit E)) (ms : List ℕ) (i :
         feasible = feasible_take (suc (length (take i ms))) vs feasible;
       }
 
-  pub marks_more : (m : ℕ) → Mark K vs i m → Marks K (take (i + 1) vs) (take (i + 1) (set ms i m))
-  marks_more m mark = record { many = length-take (i + 1) (set ms i m) ∙ omega (arith, length-set ms i m, length-take (i + 1) vs); each = each }
+  -- m is found as the mark of the next stop, which can be reached at s
+  pub marks_more : (m s : ℕ) → s ≡ reached vs (i + 1) → (Ready K vs (take i ms) → s ≡ reached vs (length (take i ms) + 1) → Mark K vs (length (take i ms)) m) → Marks K (take (i + 1) vs) (take (i + 1) (set ms i m))
+  marks_more m s e found = record { many = length-take (i + 1) (set ms i m) ∙ omega (arith, length-set ms i m, length-take (i + 1) vs); each = each }
     where
+      mark : Mark K vs i m
+      mark = subst (λ n. Mark K vs n m) front_length (found front_ready (subst (λ n. s ≡ reached vs (n + 1)) (sym front_length) e))
+
       each : (k : ℕ) → k < length (take (i + 1) vs) → Mark K (take (i + 1) vs) k (get_or (take (i + 1) (set ms i m)) k 0)
       each k h = elim (dec_le i k) [
         | yes p ↦

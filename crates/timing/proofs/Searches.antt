@@ -1,6 +1,6 @@
 -- How a mark is found. Assumes nothing.
 use Rattle.std.proofs.Common.{◌≡◌, ℕ, zero, suc, ◌+◌, ◌^◌, ◌<◌, ◌≤◌, Bool, true, false, cond, ltb, ◌↔◌, List, ◌∷◌, reverse, length, take, sym, refl, ap, subst, subst₂, pow-suc, arith, take_all, ltb-false, ltb-true}
-use native.Mathlib.Decide.{dec_le}
+use Rattle.std.proofs.Math.Decide.{dec_le}
 use Rattle.std.proofs.lemmas.Bool.{both_ways}
 use Rattle.cost.specs.Algebra.{Algebra, Most}
 use Rattle.timing.specs.Visits.{Visit, at}

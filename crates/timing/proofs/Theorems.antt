@@ -1,8 +1,8 @@
 -- The theorems on routes in the order of service. Assumes nothing.
 use Rattle.std.proofs.Common.{◌≡◌, ℕ, zero, suc, ◌+◌, ◌<◌, ◌≤◌, min, max, ◌↔◌, List, [], ◌∷◌, reverse, length, get_or, take, sym, refl, ap, ◌∙◌, subst, subst₂, arith, length-take, get_or-take, take-take}
 use mathlib.Core.List.{reverse_aux}
-use native.Mathlib.Decide.{dec_le}
-use lib.ListN.{length-reverse}
+use Rattle.std.proofs.Math.Decide.{dec_le}
+use Rattle.std.proofs.lemmas.List.{length-reverse}
 use Rattle.std.proofs.lemmas.List.{reverse-reverse, get_or_past}
 use Rattle.cost.specs.Algebra.{Algebra, Most}
 use Rattle.timing.specs.Visits.{Visit}

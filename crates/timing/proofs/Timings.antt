@@ -1,5 +1,7 @@
 -- The minutes that marks give, and their bill, one stop at a time. Assumes nothing.
-use Rattle.std.proofs.Common.{◌≡◌, ℕ, zero, suc, ◌+◌, ◌-◌, ◌*◌, ◌^◌, ◌<◌, ◌≤◌, min, List, [], ◌∷◌, length, get_or, drop, sym, refl, ap, ◌∙◌, subst, arith}
+use Rattle.std.proofs.Common.{◌≡◌, ℕ, zero, suc, ◌+◌, ◌-◌, ◌*◌, ◌^◌, ◌<◌, ◌≤◌, min, List, [], ◌∷◌, length, get_or, drop, sym, refl, ap, ◌∙◌, subst, add-one, arith}
+use Rattle.std.proofs.lemmas.List.{drop_all, get_or_past}
+use Rattle.std.proofs.Math.Numerals.{unary_clauses}
 use Rattle.cost.specs.Algebra.{Algebra}
 use Rattle.timing.specs.Visits.{Visit, at}
 use Rattle.timing.specs.Timetables.{Fits, bill}
@@ -8,6 +10,14 @@ use Rattle.timing.specs.Sound.{Small}
 use Rattle.timing.specs.Charges.{Served, charged}
 use Rattle.timing.proofs.Forward.{fits_length}
 
+-- p is what stop i costs at minute t, if it can be served then
+abbrev pub Priced : {E : Type 0} → Algebra E → List (Visit E) → ℕ → ℕ → E → Type 0
+Priced K vs i t p = (at K vs i).first ≤ t → t ≤ (at K vs i).last → p ≡ (at K vs i).price t
+
+-- the sums of costs that are not too large are exact
+abbrev pub IsExact : {E : Type 0} → Algebra E → (E → E → E) → Type 0
+IsExact K sum = (a b : _) → K.size a + K.size b ≤ 2 ^ 50 → sum a b ≡ K.plus a b
+
 module _ {E : Type 0} where
   pub minutes_length : (vs : List (Visit E)) (ms : List ℕ) → length (minutes vs ms) ≡ min (length vs) (length ms)
   minutes_length [] ms = omega arith
@@ -15,10 +25,7 @@ module _ {E : Type 0} where
   minutes_length (v ∷ vs) (m ∷ ms) = omega (arith, minutes_length vs ms)
 
   pub minutes_past : (vs : List (Visit E)) (ms : List ℕ) (k : ℕ) → min (length vs) (length ms) ≤ k → get_or (minutes vs ms) k 0 ≡ 0
-  minutes_past [] ms k h = refl
-  minutes_past (v ∷ vs) [] k h = refl
-  minutes_past (v ∷ vs) (m ∷ ms) zero h = absurd (omega arith)
-  minutes_past (v ∷ vs) (m ∷ ms) (suc k) h = minutes_past vs ms k (omega arith)
+  minutes_past vs ms k h = get_or_past (minutes vs ms) k 0 (omega (arith, minutes_length vs ms))
 
   -- the last stop that has a mark is served then
   pub minutes_last : (vs : List (Visit E)) (ms : List ℕ) (j : ℕ) → j < length vs → j < length ms → min (length vs) (length ms) ≤ suc j → get_or (minutes vs ms) j 0 ≡ get_or ms j 0
@@ -29,13 +36,13 @@ module _ {E : Type 0} where
   minutes_last (v ∷ w ∷ vs) (m ∷ n ∷ ms) zero p q h = absurd (omega arith)
   minutes_last (v ∷ vs) (m ∷ ms) (suc j) p q h = minutes_last vs ms j (omega arith) (omega arith) (omega arith)
 
-  pub minutes_step : (K : Algebra E) (vs : List (Visit E)) (ms : List ℕ) (j : ℕ) → suc j < min (length vs) (length ms) → get_or (minutes vs ms) j 0 ≡ min (get_or ms j 0) (get_or (minutes vs ms) (suc j) 0 - (at K vs (suc j)).leg)
+  pub minutes_step : (K : Algebra E) (vs : List (Visit E)) (ms : List ℕ) (j : ℕ) → j + 1 < min (length vs) (length ms) → get_or (minutes vs ms) j 0 ≡ min (get_or ms j 0) (get_or (minutes vs ms) (j + 1) 0 - (at K vs (j + 1)).leg)
   minutes_step K [] ms j h = absurd (omega arith)
   minutes_step K (v ∷ vs) [] j h = absurd (omega arith)
   minutes_step K (v ∷ []) (m ∷ ms) zero h = absurd (omega arith)
   minutes_step K (v ∷ w ∷ vs) (m ∷ []) zero h = absurd (omega arith)
   minutes_step K (v ∷ w ∷ vs) (m ∷ n ∷ ms) zero h = refl
-  minutes_step K (v ∷ vs) (m ∷ ms) (suc j) h = minutes_step K vs ms j (omega arith)
+  minutes_step K (v ∷ vs) (m ∷ ms) (suc j) h = simp unary_clauses (simp unary_clauses at (minutes_step K vs ms j (omega arith)))
 
 module _ {E : Type 0} (K : Algebra E) where
   pub fits_at : (p : ℕ) (vs : List (Visit E)) (ts : List ℕ) (j : ℕ) → Fits p vs ts → j < length vs → ((at K vs j).first ≤ get_or ts j 0) × (get_or ts j 0 ≤ (at K vs j).last)
@@ -50,10 +57,13 @@ module _ {E : Type 0} (K : Algebra E) where
   bill_step p (v ∷ vs) (t ∷ ts) zero f h = refl
   bill_step p (v ∷ vs) (t ∷ ts) (suc j) f h = bill_step t vs ts j f.3 (omega arith)
 
-  pub small_at : (vs : List (Visit E)) (j t : ℕ) → Small K vs → (at K vs j).first ≤ t → t ≤ (at K vs j).last → K.size ((at K vs j).price t) ≤ 2 ^ 40
+  small_at : (vs : List (Visit E)) (j t : ℕ) → Small K vs → (at K vs j).first ≤ t → t ≤ (at K vs j).last → K.size ((at K vs j).price t) ≤ 2 ^ 40
   small_at [] j t s h k = absurd (omega arith)
   small_at (v ∷ vs) zero t s h k = s.0 t h k
   small_at (v ∷ vs) (suc j) t s h k = small_at vs j t s.1 h k
+
+  pub priced_small : (vs : List (Visit E)) (j t : ℕ) (p : E) → Small K vs → (at K vs j).first ≤ t → t ≤ (at K vs j).last → Priced K vs j t p → K.size p ≤ 2 ^ 40
+  priced_small vs j t p s h k pp = rw (pp h k) (small_at vs j t s h k)
 
   pub bill_size : (p : ℕ) (vs : List (Visit E)) (ts : List ℕ) → Small K vs → Fits p vs ts → K.size (bill K vs ts) ≤ length vs * 2 ^ 40
   bill_size p [] ts s f = omega (arith, K.size_nought)
@@ -67,30 +77,27 @@ module _ {E : Type 0} (K : Algebra E) where
   rest_size p (v ∷ vs) [] (suc j) s f = absurd f
   rest_size p (v ∷ vs) (t ∷ ts) (suc j) s f = omega (arith, rest_size t vs ts j s.1 f.3)
 
-  pub bill_past : (vs : List (Visit E)) (ts : List ℕ) (j : ℕ) → length vs ≤ j → bill K (drop j vs) ts ≡ K.nought
-  bill_past [] ts zero h = refl
-  bill_past [] ts (suc j) h = refl
-  bill_past (v ∷ vs) ts zero h = absurd (omega arith)
-  bill_past (v ∷ vs) ts (suc j) h = bill_past vs ts j (omega arith)
-
   module _ (vs : List (Visit E)) (ms : List ℕ) (s : Served K vs ms) where
     served_length : length vs ≤ length ms
     served_length = omega (arith, minutes_length vs ms, fits_length 0 vs (minutes vs ms) s.timetable)
 
     pub charged_none : (j : ℕ) → j ≡ min (length vs) (length ms) → charged K vs ms j ≡ K.nought
-    charged_none j e = bill_past vs (drop j (minutes vs ms)) j (omega (arith, served_length))
+    charged_none j e = ap (λ ws. bill K ws (drop j (minutes vs ms))) (drop_all j vs (omega (arith, served_length)))
 
     module _ (j t : ℕ) (h : j < length vs) (e : t ≡ get_or (minutes vs ms) j 0) where
-      pub served_inside : ((at K vs j).first ≤ t) × (t ≤ (at K vs j).last)
-      served_inside = subst (λ x. ((at K vs j).first ≤ x) × (x ≤ (at K vs j).last)) (sym e) (fits_at 0 vs (minutes vs ms) j s.timetable h)
+      inside : ((at K vs j).first ≤ t) × (t ≤ (at K vs j).last)
+      inside = subst (λ x. ((at K vs j).first ≤ x) × (x ≤ (at K vs j).last)) (sym e) (fits_at 0 vs (minutes vs ms) j s.timetable h)
 
-      pub charged_step : charged K vs ms j ≡ K.plus ((at K vs j).price t) (charged K vs ms (j + 1))
-      charged_step =
-          let d : suc j ≡ j + 1 = omega arith in
-          subst (λ n. charged K vs ms j ≡ K.plus ((at K vs j).price t) (charged K vs ms n)) d
-          (bill_step 0 vs (minutes vs ms) j s.timetable h ∙ ap (λ x. K.plus ((at K vs j).price x) (charged K vs ms (suc j))) (sym e))
+      step : K.plus ((at K vs j).price t) (charged K vs ms (j + 1)) ≡ charged K vs ms j
+      step = rw (add-one, e) (sym (bill_step 0 vs (minutes vs ms) j s.timetable h))
 
       -- the sum is exact
-      pub charged_small : K.size ((at K vs j).price t) + K.size (charged K vs ms (j + 1)) ≤ 2 ^ 50
-      charged_small =
-          omega (arith, s.sound.few, small_at vs j t s.sound.small served_inside.0 served_inside.1, rest_size 0 vs (minutes vs ms) (j + 1) s.sound.small s.timetable)
+      small : K.size ((at K vs j).price t) + K.size (charged K vs ms (j + 1)) ≤ 2 ^ 50
+      small =
+          omega (arith, s.sound.few, small_at vs j t s.sound.small inside.0 inside.1, rest_size 0 vs (minutes vs ms) (j + 1) s.sound.small s.timetable)
+
+      -- what stop j costs, added to what those after it cost
+      pub charged_more : (sum : E → E → E) → IsExact K sum → (p total : E) → Priced K vs j t p → total ≡ charged K vs ms (j + 1) → sum p total ≡ charged K vs ms j
+      charged_more sum exact p total pp et =
+          let ep = pp inside.0 inside.1 in
+          rw (ep, et) (exact ((at K vs j).price t) (charged K vs ms (j + 1)) small ∙ step)

@@ -2,6 +2,7 @@
 #![tactic(auto)]
 
 pub mod line;
+pub mod marked;
 pub mod marks;
 pub mod minutes;
 pub mod reach;

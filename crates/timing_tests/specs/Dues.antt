@@ -12,7 +12,3 @@ promise s t = (t - s.due, money s t)
 
 abbrev pub visit : {E : Type 0} → (Due → ℕ → E) → Due → Visit E
 visit price s = record { first = s.first; last = s.last; leg = s.leg; price = price s }
-
--- what stands where a table has no stop
-abbrev pub blank : Due
-blank = record { first = 0; last = 0; due = 0; early = 0; late = 0; leg = 0 }

@@ -24,32 +24,17 @@ impl<P: Pricing> Line for Table<'_, P> {
     }
 
     fn leg(&self, i: usize) -> u16 {
-        if i < self.stops.len() {
-            self.stops[i].leg
-        } else {
-            0
-        }
+        self.stops.get(i).map_or(0, |stop| stop.leg)
     }
 
     fn window(&self, i: usize) -> Option<(u16, u16)> {
-        if i < self.stops.len() {
-            Some((self.stops[i].first, self.stops[i].last))
-        } else {
-            None
-        }
+        self.stops.get(i).map(|stop| (stop.first, stop.last))
     }
 
     fn cost(&self, i: usize, minute: u16) -> Option<P::Kind> {
-        if i >= self.stops.len() {
-            return None;
-        }
-        let stop = self.stops[i];
-        if minute < stop.first {
-            return None;
-        }
-        if minute > stop.last {
-            return None;
-        }
-        Some(self.pricing.charge(stop, minute))
+        let stop = *self.stops.get(i)?;
+        (stop.first..=stop.last)
+            .contains(&minute)
+            .then(|| self.pricing.charge(stop, minute))
     }
 }

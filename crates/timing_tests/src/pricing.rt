@@ -26,11 +26,8 @@ pub struct Money;
 fn money_at(stop: Due, t: u16) -> Amount
     ensures { result.units ≡ money stop t }
 {
-    if t < stop.due {
-        Amount::new(stop.early as u64 * (stop.due - t) as u64)
-    } else {
-        Amount::new(stop.late as u64 * (t - stop.due) as u64)
-    }
+    let rate = if t < stop.due { stop.early } else { stop.late };
+    Amount::new(u64::from(rate) * u64::from(t.abs_diff(stop.due)))
 }
 
 impl Pricing for Money {
@@ -58,7 +55,7 @@ impl Pricing for Promise {
 
     fn charge(&self, stop: Due, t: u16) -> Pair<Amount, Amount> {
         Pair {
-            first: Amount::new(t.saturating_sub(stop.due) as u64),
+            first: Amount::new(u64::from(t.saturating_sub(stop.due))),
             second: money_at(stop, t),
         }
     }

@@ -2,8 +2,8 @@ use crate::due::Due;
 use crate::lines::Table;
 use crate::pricing::{Money, Promise};
 use timing::line::Line;
-use timing::marks::{next_mark, refresh};
-use timing::minutes::{least, minute};
+use timing::marked::MarkedLine;
+use timing::marks::refresh;
 use timing::reach::first_blocked;
 
 const A: Due = Due {
@@ -51,12 +51,17 @@ fn after(stop: Due, leg: u16) -> Due {
 fn times<L: Line>(line: &L) -> ([u16; 3], [u16; 3]) {
     let mut marks = [0; 3];
     refresh(line, &mut marks, 0);
-    let minutes = [
-        minute(line, &marks, 0),
-        minute(line, &marks, 1),
-        minute(line, &marks, 2),
-    ];
+    let marked = MarkedLine {
+        line,
+        marks: &marks,
+    };
+    let minutes = [marked.minute(0), marked.minute(1), marked.minute(2)];
     (marks, minutes)
+}
+
+// What the stops cost at those minutes.
+fn least<L: Line>(line: &L, marks: &[u16]) -> L::Kind {
+    MarkedLine { line, marks }.least()
 }
 
 #[test]
@@ -77,8 +82,8 @@ fn two_stops_move_together(rt: HostRuntime) {
         pricing: Money,
     };
     let (marks, minutes) = times(&line);
-    assert!(rt; marks == [600, 605, 0]);
-    assert!(rt; minutes == [595, 605, 0]);
+    assert_eq!(rt; marks, [600, 605, 0]);
+    assert_eq!(rt; minutes, [595, 605, 0]);
     assert_eq!(rt; least(&line, &marks).units(), 5);
 }
 
@@ -90,8 +95,8 @@ fn a_window_stops_the_block(rt: HostRuntime) {
         pricing: Money,
     };
     let (marks, minutes) = times(&line);
-    assert!(rt; marks == [590, 600, 606]);
-    assert!(rt; minutes == [590, 596, 606]);
+    assert_eq!(rt; marks, [590, 600, 606]);
+    assert_eq!(rt; minutes, [590, 596, 606]);
     assert_eq!(rt; least(&line, &marks).units(), 6);
 }
 
@@ -103,9 +108,13 @@ fn marks_are_refreshed_from_a_place_on(rt: HostRuntime) {
         pricing: Money,
     };
     let mut marks = [590, 9, 9, 9];
-    assert_eq!(rt; next_mark(&line, &marks[..1]), 600);
+    let first = MarkedLine {
+        line: &line,
+        marks: &marks[..1],
+    };
+    assert_eq!(rt; first.next_mark(), 600);
     refresh(&line, &mut marks, 1);
-    assert!(rt; marks == [590, 600, 606, 9]);
+    assert_eq!(rt; marks, [590, 600, 606, 9]);
 }
 
 // The first stop costs one less each minute, up to its last one; the second three more, so it is served as soon as it can be.
@@ -132,8 +141,8 @@ fn windows_bind_on_both_sides(rt: HostRuntime) {
         pricing: Money,
     };
     let (marks, minutes) = times(&line);
-    assert!(rt; marks == [110, 110, 0]);
-    assert!(rt; minutes == [100, 110, 0]);
+    assert_eq!(rt; marks, [110, 110, 0]);
+    assert_eq!(rt; minutes, [100, 110, 0]);
     assert_eq!(rt; least(&line, &marks).units(), 430);
 }
 
@@ -152,8 +161,8 @@ fn the_earliest_of_equals_is_best(rt: HostRuntime) {
         pricing: Money,
     };
     let (marks, minutes) = times(&line);
-    assert!(rt; marks == [600, 605, 0]);
-    assert!(rt; minutes == [595, 605, 0]);
+    assert_eq!(rt; marks, [600, 605, 0]);
+    assert_eq!(rt; minutes, [595, 605, 0]);
     assert_eq!(rt; least(&line, &marks).units(), 5);
 }
 
@@ -165,8 +174,8 @@ fn money_alone_comes_late(rt: HostRuntime) {
         pricing: Money,
     };
     let (marks, minutes) = times(&line);
-    assert!(rt; marks == [600, 610, 0]);
-    assert!(rt; minutes == [600, 610, 0]);
+    assert_eq!(rt; marks, [600, 610, 0]);
+    assert_eq!(rt; minutes, [600, 610, 0]);
     assert_eq!(rt; least(&line, &marks).units(), 10);
 }
 
@@ -178,10 +187,10 @@ fn pairs_are_not_added_up(rt: HostRuntime) {
         pricing: Promise,
     };
     let (marks, minutes) = times(&line);
-    assert!(rt; marks == [600, 605, 0]);
-    assert!(rt; minutes == [595, 605, 0]);
+    assert_eq!(rt; marks, [600, 605, 0]);
+    assert_eq!(rt; minutes, [595, 605, 0]);
     let cost = least(&line, &marks);
-    assert!(rt; cost.first.units() == 0 && cost.second.units() == 25);
+    assert_eq!(rt; (cost.first.units(), cost.second.units()), (0, 25));
 }
 
 #[test]

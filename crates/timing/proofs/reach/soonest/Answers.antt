@@ -3,5 +3,4 @@ use Rattle.timing.proofs.Arrivals.{reached_next}
 use Rattle.timing.proofs.reach.soonest.Goals as goal
 
 pub returns : goal.returns
-returns g c h e =
-    omega (arith, reached_next (g.L.Line.visits c.args.line.now) g.L.Kind.Cost.algebra c.args.i c.args.ready c.first_minute.result c.leg.result h e c.first_minute.ensures c.leg.ensures c.first_minute.type_inv)
+returns g c h e = omega (arith, reached_next (g.L.Line.visits c.args.line.now) g.L.Kind.Cost.algebra c.args.i h)
