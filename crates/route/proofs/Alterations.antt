@@ -1,5 +1,6 @@
 -- What the alterations of the table come to.
-use Rattle.std.proofs.Common.{◌≡◌, ℕ, suc, ◌+◌, ◌-◌, ◌<◌, ◌≤◌, List, [], ◌∷◌, ◌++◌, map, length, get_or, take, drop, set, sym, ap, ◌∙◌, append-nil, arith, drop-cons}
+use Rattle.std.proofs.Common.{◌≡◌, ℕ, suc, ◌+◌, ◌-◌, ◌<◌, ◌≤◌, List, [], ◌∷◌, ◌++◌, map, length, get_or, take, drop, set, Some, None, Option, sym, refl, ap, ◌∙◌, append-nil, arith, drop-cons}
+use Rattle.std.specs.Prelude.{MatchOption}
 use Rattle.std.specs.List.{insert, remove}
 use Rattle.std.proofs.lemmas.List.{length-map, length-take-le, map-append, map-set, set_split, set-get_or, get_or-map, take_all, drop_all, take-map, drop-map, take_at, drop_at, take-append-le, take-take, take-set}
 use Rattle.route.specs.declared.stop.Stop.{Stop}
@@ -7,6 +8,11 @@ use Rattle.route.specs.declared.stop.Splice.TheVariants.{Insert, Remove, Change}
 use Rattle.route.specs.Plain.{Plain, releg, recurve}
 use Rattle.route.specs.Table.{plain, plains, mark, marks}
 use Rattle.route.specs.Calls.{Altered}
+
+-- what is said of an absent value
+pub when_none : {A : Type 0} (o : Option A) (P : Type 0) (Q : A → Type 0) → ((x : A) → o ≡ Some x → ⊥) → MatchOption o P Q → P
+when_none None P Q never h = h
+when_none (Some x) P Q never h = absurd (never x refl)
 
 abbrev pub with_leg : Stop → ℕ → Stop
 with_leg s l = record { curve = s.curve; leg = l; mark = s.mark }
@@ -17,14 +23,15 @@ with_curve s k = record { curve = k; leg = s.leg; mark = s.mark }
 abbrev pub with_next : List Stop → ℕ → ℕ → List Plain
 with_next ss i l = take i (plains ss) ++ releg l (drop i (plains ss))
 
-pub leg_set : (ss : List Stop) (i l : ℕ) (z : Stop) → i < length ss → plains (set ss i (with_leg (get_or ss i z) l)) ≡ with_next ss i l
-leg_set ss i l z h =
+pub leg_set : (ss : List Stop) (i l : ℕ) (s : Stop) → i < length ss → s ≡ get_or ss i s → plains (set ss i (with_leg s l)) ≡ with_next ss i l
+leg_set ss i l s h e =
     let ps = plains ss in
     let n = length-map ss plain in
     let lt : i < length ps = omega arith in
-    map-set plain ss i (with_leg (get_or ss i z) l)
-    ∙ set_split ps i (plain (with_leg (get_or ss i z) l)) lt
-    ∙ ap (λ (q : List Plain). take i ps ++ releg l q) (sym (drop-cons ps i (plain z) lt ∙ ap (λ (x : Plain). x ∷ drop (suc i) ps) (get_or-map plain ss i z (plain z) h)))
+    let here : get_or ps i (plain s) ≡ plain s = get_or-map plain ss i s (plain s) h ∙ ap plain (sym e) in
+    map-set plain ss i (with_leg s l)
+    ∙ set_split ps i (plain (with_leg s l)) lt
+    ∙ ap (λ (q : List Plain). take i ps ++ releg l q) (sym (drop-cons ps i (plain s) lt ∙ ap (λ (x : Plain). x ∷ drop (suc i) ps) here))
 
 pub leg_past : (ss : List Stop) (i l : ℕ) → length ss ≤ i → plains ss ≡ with_next ss i l
 leg_past ss i l h =
@@ -34,16 +41,16 @@ leg_past ss i l h =
     sym (append-nil ps) ∙ ap (λ (q : List Plain). q ++ []) (sym (take_all i ps ge)) ∙ ap (λ (q : List Plain). take i ps ++ releg l q) (sym (drop_all i ps ge))
 
 -- a stop written anew with its own mark leaves the marks
-pub marks_set : (ss : List Stop) (i : ℕ) (z y : Stop) → i < length ss → y.mark ≡ (get_or ss i z).mark → marks (set ss i y) ≡ marks ss
-marks_set ss i z y h e =
-    map-set mark ss i y ∙ ap (λ (t : ℕ). set (marks ss) i t) (e ∙ sym (get_or-map mark ss i z 0 h)) ∙ set-get_or (marks ss) i 0
+pub marks_set : (ss : List Stop) (i : ℕ) (s y : Stop) → i < length ss → s ≡ get_or ss i s → y.mark ≡ s.mark → marks (set ss i y) ≡ marks ss
+marks_set ss i s y h e k =
+    map-set mark ss i y ∙ ap (λ (t : ℕ). set (marks ss) i t) (k ∙ ap mark e ∙ sym (get_or-map mark ss i s 0 h)) ∙ set-get_or (marks ss) i 0
 
 -- the first i values of a list that begins with the first i of another
 front_kept : {A : Type 0} (f : Stop → A) (vs : List Stop) (ys : List Stop) (i : ℕ) → i ≤ length vs → take i (map f (take i vs ++ ys)) ≡ take i (map f vs)
 front_kept f vs ys i h =
     take-map f i (take i vs ++ ys) ∙ ap (map f) (take_at (take i vs) ys i (length-take-le i vs h)) ∙ sym (take-map f i vs)
 
-same_length : (ss vs : List Stop) → marks vs ≡ marks ss → length vs ≡ length ss
+pub same_length : (ss vs : List Stop) → marks vs ≡ marks ss → length vs ≡ length ss
 same_length ss vs e = sym (length-map vs mark) ∙ ap length e ∙ length-map ss mark
 
 pub insert_altered : (ss vs us : List Stop) (p b : ℕ) (x : Stop) → 1 ≤ p → p ≤ length ss + 1 → plains vs ≡ with_next ss (p - 1) b → marks vs ≡ marks ss → us ≡ insert vs (p - 1) x → Altered ss (Insert p x.curve x.leg b) us

@@ -4,6 +4,7 @@ pub mod Splices
 pub mod Alterations
 pub mod Remarks
 pub mod Soundness
+pub mod Judgements
 pub mod Settling
 pub mod Readings
 pub mod Joinings

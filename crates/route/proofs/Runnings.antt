@@ -1,5 +1,5 @@
 -- The steps of a whole run.
-use Rattle.std.proofs.Common.{◌≡◌, ℕ, suc, ◌+◌, ◌-◌, ◌<◌, ◌≤◌, Bool, false, cond, ◌||◌, ltb, List, [], ◌∷◌, ◌++◌, map, length, get_or, take, Ok, Err, Result, sym, refl, ap, ◌∙◌, subst, arith, le-ltb}
+use Rattle.std.proofs.Common.{◌≡◌, ℕ, suc, ◌+◌, ◌-◌, ◌<◌, ◌≤◌, List, [], ◌∷◌, ◌++◌, map, length, get_or, take, sym, refl, ap, ◌∙◌, subst, arith}
 use Rattle.std.proofs.lemmas.List.{length-map, take_more, take_all, map_push, get_or-map}
 use Rattle.cost.specs.Algebra.{Algebra}
 use Rattle.source.specs.Meaning.{Meaning}
@@ -12,42 +12,26 @@ use Rattle.timing.proofs.Theorems.{best_one}
 use Rattle.route.specs.declared.stop.Stop.{Stop}
 use Rattle.route.specs.declared.stop.Facts.{Facts}
 use Rattle.route.specs.declared.stop.Splice.{Splice}
-use Rattle.route.specs.declared.stop.Refusal.{Refusal}
-use Rattle.route.specs.declared.stop.Refusal.TheVariants.{Place}
 use Rattle.route.specs.Plain.{Plain, seen, visits}
 use Rattle.route.specs.Table.{plain, plains, mark, marks, line, Marked}
-use Rattle.route.specs.Judged.{Answer, Runs, outside}
-use Rattle.route.specs.Calls.{blank, facts_of, facts_at, timed, Spliced}
+use Rattle.route.specs.Judged.{Answer, Runs}
+use Rattle.route.specs.Calls.{facts_of, timed, Spliced}
 use Rattle.route.specs.Joins.{Least}
 use Rattle.route.specs.Guarantee.{told, told_mark, told_minute, Read}
 use Rattle.route.specs.Runs.{Told, Ran}
 use Rattle.route.proofs.Uniqueness.{runs_push, steady}
-use Rattle.route.proofs.Joinings.{no_marks}
 
 -- the facts of one stop more
-
-pub facts_there : (ss : List Stop) (ts : List ℕ) (i : ℕ) → i < length ss → facts_at ss ts (i + 1) ≡ Ok (facts_of (get_or ss i blank) (get_or ts i 0))
-facts_there ss ts i h =
-    let a : ltb (i + 1) 1 ≡ false = le-ltb (i + 1) 1 (omega arith) in
-    let b : ltb (length ss) (i + 1) ≡ false = le-ltb (length ss) (i + 1) (omega arith) in
-    let e : outside (i + 1) (length ss) ≡ false = ap (λ (x : Bool). x || ltb (length ss) (i + 1)) a ∙ b in
-    let z : i + 1 - 1 ≡ i = omega arith in
-    ap (λ (x : Bool). cond x (Err Place) (Ok (facts_of (get_or ss (i + 1 - 1) blank) (get_or ts (i + 1 - 1) 0)))) e
-    ∙ ap (λ (k : ℕ). Ok (facts_of (get_or ss k blank) (get_or ts k 0))) z
-
-ok_one : (f g : Facts) → ◌≡◌ {A = Result Facts Refusal} (Ok f) (Ok g) → f ≡ g
-ok_one f g e = cc
 
 abbrev pub TellsTo : List Stop → List ℕ → List Facts → ℕ → Type 0
 TellsTo ss ts fs i = (map told fs ≡ take i (plains ss)) × (map told_mark fs ≡ take i (marks ss)) × (map told_minute fs ≡ take i ts)
 
-pub tells_more : (ss : List Stop) (ts : List ℕ) (fs gs : List Facts) (f : Facts) (i : ℕ) → i < length ss → i < length ts → Ok f ≡ facts_at ss ts (i + 1) → gs ≡ fs ++ f ∷ [] → TellsTo ss ts fs i → TellsTo ss ts gs (i + 1)
-tells_more ss ts fs gs f i h k e g t =
-    let w : f ≡ facts_of (get_or ss i blank) (get_or ts i 0) = ok_one f (facts_of (get_or ss i blank) (get_or ts i 0)) (e ∙ facts_there ss ts i h) in
+pub tells_more : (ss : List Stop) (ts : List ℕ) (fs gs : List Facts) (z : Stop) (f : Facts) (i : ℕ) → i < length ss → i < length ts → f ≡ facts_of (get_or ss i z) (get_or ts i 0) → gs ≡ fs ++ f ∷ [] → TellsTo ss ts fs i → TellsTo ss ts gs (i + 1)
+tells_more ss ts fs gs z f i h k w g t =
     let n = length-map ss plain in
     let m = length-map ss mark in (
-      ap (map told) g ∙ map_push told fs f ∙ ap (λ (l : List Plain). l ++ told f ∷ []) t.0 ∙ ap (λ (x : Facts). take i (plains ss) ++ told x ∷ []) w ∙ ap (λ (x : Plain). take i (plains ss) ++ x ∷ []) (sym (get_or-map plain ss i blank (plain blank) h)) ∙ sym (take_more (plains ss) i (plain blank) (omega arith)),
-      ap (map told_mark) g ∙ map_push told_mark fs f ∙ ap (λ (l : List ℕ). l ++ told_mark f ∷ []) t.1 ∙ ap (λ (x : Facts). take i (marks ss) ++ told_mark x ∷ []) w ∙ ap (λ (x : ℕ). take i (marks ss) ++ x ∷ []) (sym (get_or-map mark ss i blank 0 h)) ∙ sym (take_more (marks ss) i 0 (omega arith)),
+      ap (map told) g ∙ map_push told fs f ∙ ap (λ (l : List Plain). l ++ told f ∷ []) t.0 ∙ ap (λ (x : Facts). take i (plains ss) ++ told x ∷ []) w ∙ ap (λ (x : Plain). take i (plains ss) ++ x ∷ []) (sym (get_or-map plain ss i z (plain z) h)) ∙ sym (take_more (plains ss) i (plain z) (omega arith)),
+      ap (map told_mark) g ∙ map_push told_mark fs f ∙ ap (λ (l : List ℕ). l ++ told_mark f ∷ []) t.1 ∙ ap (λ (x : Facts). take i (marks ss) ++ told_mark x ∷ []) w ∙ ap (λ (x : ℕ). take i (marks ss) ++ x ∷ []) (sym (get_or-map mark ss i z 0 h)) ∙ sym (take_more (marks ss) i 0 (omega arith)),
       ap (map told_minute) g ∙ map_push told_minute fs f ∙ ap (λ (l : List ℕ). l ++ told_minute f ∷ []) t.2 ∙ ap (λ (x : Facts). take i ts ++ told_minute x ∷ []) w ∙ sym (take_more ts i 0 k),
     )
 
@@ -84,9 +68,6 @@ module _ {X E : Type 0} (K : Algebra E) (M : X → Meaning E) (x : X) where
       subst (λ (l : List Splice). Runs K (M x) (plains ss) l ts (plains vs)) (sym f)
       (subst (λ (l : List Answer). Runs K (M x) (plains ss) (done ++ s ∷ []) l (plains vs)) (sym g) (runs_push K (M x) (plains ss) (plains us) (plains vs) done rs s r a j.judged))
 
-  pub marked_more : (y : X) (us vs : List Stop) (s : Splice) (r : Answer) → y ≡ x → Spliced K (M y) us s r vs → Marked K (M x) us → Marked K (M x) vs
-  marked_more y us vs s r e b = (subst (λ (z : X). Spliced K (M z) us s r vs) e b).marked
-
   -- the whole of one route
   pub ran : (y : X) (us : List Stop) (ss : List Splice) (rs : List Answer) (n : ℕ) (fs : List Facts) (c : E) → y ≡ x → Runs K (M x) [] ss rs (plains us) → Marked K (M x) us → Told K (M x) us fs → n ≡ length (plains us) → Best K (line K (M x) us) (timed K (M x) us) → Least K (line K (M x) us) c → Ran K M x ss y us rs n fs c
   ran y us ss rs n fs c e runs right t k best least =
@@ -105,16 +86,13 @@ module _ {X E : Type 0} (K : Algebra E) (M : X → Meaning E) (x : X) where
       record { source = e; stops = st; read = read; steady = steady K m ss rs n fs c read }
 
   -- from an empty table, with the sources as the calls name them
-  pub ran_from : (z y : X) (ts us : List Stop) (ss : List Splice) (rs : List Answer) (n : ℕ) (fs : List Facts) (c : E) → z ≡ x → ts ≡ [] → y ≡ z → Runs K (M z) (plains ts) ss rs (plains us) → (Marked K (M z) ts → Marked K (M z) us) → Told K (M y) us fs → n ≡ length (plains us) → (Marked K (M y) us → Best K (line K (M y) us) (timed K (M y) us)) → (Marked K (M y) us → Least K (line K (M y) us) c) → Ran K M x ss y us rs n fs c
-  ran_from z y ts us ss rs n fs c e f g runs keeps t k best least =
-      let empty : Marked K (M z) ts = subst (Marked K (M z)) (sym f) (no_marks K) in
-      let right : Marked K (M x) us = subst (λ (v : X). Marked K (M v) us) e (keeps empty) in
+  pub ran_from : (z y : X) (ts us : List Stop) (ss : List Splice) (rs : List Answer) (n : ℕ) (fs : List Facts) (c : E) → z ≡ x → ts ≡ [] → y ≡ z → Runs K (M z) (plains ts) ss rs (plains us) → Told K (M y) us fs → n ≡ length (plains us) → Marked K (M y) us → Best K (line K (M y) us) (timed K (M y) us) → Least K (line K (M y) us) c → Ran K M x ss y us rs n fs c
+  ran_from z y ts us ss rs n fs c e f g runs t k right best least =
       let same : y ≡ x = g ∙ e in
-      let back = subst (λ (v : X). Marked K (M v) us) (sym same) right in
       ran y us ss rs n fs c same
       (subst (λ (l : List Stop). Runs K (M x) (plains l) ss rs (plains us)) f (subst (λ (v : X). Runs K (M v) (plains ts) ss rs (plains us)) e runs))
-      right
+      (subst (λ (v : X). Marked K (M v) us) same right)
       (subst (λ (v : X). Told K (M v) us fs) same t)
       k
-      (subst (λ (v : X). Best K (line K (M v) us) (timed K (M v) us)) same (best back))
-      (subst (λ (v : X). Least K (line K (M v) us) c) same (least back))
+      (subst (λ (v : X). Best K (line K (M v) us) (timed K (M v) us)) same best)
+      (subst (λ (v : X). Least K (line K (M v) us) c) same least)

@@ -13,9 +13,10 @@ use Rattle.route.specs.declared.stop.Splice.{Splice}
 use Rattle.route.specs.declared.stop.Splice.TheVariants.{Insert, Remove, Change}
 use Rattle.route.specs.Plain.{Plain, place, spliced, seen, visits}
 use Rattle.route.specs.Table.{plain, plains, marks, line}
+use Rattle.route.specs.Kept.{Kept}
 use Rattle.route.specs.Judged.{Answer, objection, Judged, refused, blocked, accepted}
 use Rattle.route.specs.Calls.{Altered, Refreshed, Spliced, remarked}
-use Rattle.route.proofs.Objections.{insert_free, remove_free, change_free}
+use Rattle.route.proofs.Objections.{has_place}
 use Rattle.route.proofs.Remarks.{plains_remarked, marks_remarked}
 use Rattle.route.proofs.Soundness.{lawful_sound}
 
@@ -28,9 +29,9 @@ front_at ps ys i h =
     (take_at (take i ps) ys i n, omega arith)
 
 pub front_spliced : {E : Type 0} (m : Meaning E) (ps : List Plain) (s : Splice) → objection m ps s ≡ None → (take (place s - 1) (spliced s ps) ≡ take (place s - 1) ps) × (place s - 1 ≤ length (spliced s ps))
-front_spliced m ps (Insert p k a b) e = let h = insert_free m ps p k a b e in front_at ps _ (p - 1) (omega (arith, h.1))
-front_spliced m ps (Remove p l) e = let h = remove_free m ps p l e in front_at ps _ (p - 1) (omega (arith, h.1))
-front_spliced m ps (Change p k) e = let h = change_free m ps p k e in front_at ps _ (p - 1) (omega (arith, h.1))
+front_spliced m ps (Insert p k a b) e = let h = has_place m ps (Insert p k a b) e in front_at ps _ (p - 1) (omega (arith, h.1))
+front_spliced m ps (Remove p l) e = let h = has_place m ps (Remove p l) e in front_at ps _ (p - 1) (omega (arith, h.1))
+front_spliced m ps (Change p k) e = let h = has_place m ps (Change p k) e in front_at ps _ (p - 1) (omega (arith, h.1))
 
 -- what an acceptance says
 
@@ -95,6 +96,9 @@ module _ {E : Type 0} (K : Algebra E) (m : Meaning E) where
         front = r.front ∙ a.front;
         stays = λ e. absurd (let z : ◌≡◌ {A = ℕ} 0 1 = cc in omega arith);
       }
+
+  pub kept_on : (ss ts : List Stop) (s : Splice) → Lawful K m → length ts ≤ 64 → Kept K m ss → Spliced K m ss s (Ok tt) ts → Kept K m ts
+  kept_on ss ts s law few k x = record { few = few; lawful = law; marked = x.marked k.marked }
 
   -- a refused splice
   pub stayed : (ss : List Stop) (s : Splice) (r : Answer) → Judged K m (plains ss) s r (plains ss) → Spliced K m ss s r ss

@@ -1,11 +1,13 @@
 -- The stops that a splice makes, from the parts of the table.
-use Rattle.std.proofs.Common.{◌≡◌, ℕ, suc, ◌-◌, ◌<◌, ◌≤◌, List, ◌∷◌, ◌++◌, length, get_or, take, drop, Option, sym, ap, ◌∙◌, arith, drop-cons}
-use Rattle.std.proofs.lemmas.List.{length-map, take-map, drop-map, get_or-map}
+use Rattle.std.proofs.Common.{◌≡◌, ℕ, ◌+◌, ◌-◌, List, ◌++◌, length, take, drop, Some, None, Option, sym, ap, ◌∙◌, subst, arith}
+use Rattle.std.proofs.lemmas.List.{length-drop, take-map, drop-map, take_all, drop-drop}
 use Rattle.route.specs.declared.stop.Stop.{Stop}
-use Rattle.route.specs.declared.stop.Splice.TheVariants.{Change}
+use Rattle.route.specs.declared.stop.Splice.{Splice}
+use Rattle.route.specs.declared.stop.Splice.TheVariants.{Remove}
 use Rattle.cost.specs.Algebra.{Algebra}
 use Rattle.source.specs.Meaning.{Meaning}
-use Rattle.route.specs.Plain.{Plain, recurve, spliced, visits}
+use Rattle.route.specs.Plain.{Plain, place, spliced, visits}
+use Rattle.route.specs.Judged.{HasPlace}
 use Rattle.route.specs.Table.{plain, plains}
 use Rattle.route.specs.Drafts.{put_in, behind, drafted}
 
@@ -14,18 +16,14 @@ parts ss front back i j put leg f b =
     ap (λ (l : List Plain). l ++ (put_in put ++ behind leg (plains back))) (ap plains f ∙ sym (take-map plain i ss))
     ∙ ap (λ (l : List Plain). take i (plains ss) ++ (put_in put ++ behind leg l)) (ap plains b ∙ sym (drop-map plain j ss))
 
--- the stop at a place, and those after it
-pub split_place : (ss : List Stop) (p : ℕ) (z : Stop) → 1 ≤ p → p ≤ length ss → drop (p - 1) (plains ss) ≡ plain (get_or ss (p - 1) z) ∷ drop p (plains ss)
-split_place ss p z h g =
-    let n = length-map ss plain in
-    let lt : p - 1 < length (plains ss) = omega arith in
-    let up : suc (p - 1) ≡ p = omega arith in
-    drop-cons (plains ss) (p - 1) (plain z) lt
-    ∙ ap (λ (q : Plain). q ∷ drop (suc (p - 1)) (plains ss)) (get_or-map plain ss (p - 1) z (plain z) (omega arith))
-    ∙ ap (λ (j : ℕ). plain (get_or ss (p - 1) z) ∷ drop j (plains ss)) up
-
-pub change_parts : (ss : List Stop) (p k : ℕ) (z : Stop) → 1 ≤ p → p ≤ length ss → take (p - 1) (plains ss) ++ record { curve = k; leg = (get_or ss (p - 1) z).leg } ∷ drop p (plains ss) ≡ spliced (Change p k) (plains ss)
-change_parts ss p k z h g = ap (λ (l : List Plain). take (p - 1) (plains ss) ++ recurve k l) (sym (split_place ss p z h g))
+-- the stops without the one at a place; the code holds those after it as a part of the rest from the place on
+pub remove_parts : (ss front rest : List Stop) (s : Splice) (i p l : ℕ) → HasPlace (length ss) s → s ≡ Remove p l → i ≡ place s - 1 → front ≡ take i ss → rest ≡ drop i ss → drafted front None (take (length rest - 1) (drop 1 rest)) (Some l) ≡ spliced s (plains ss)
+remove_parts ss front rest s i p l fits is at f r =
+    let h : HasPlace (length ss) (Remove p l) = subst (HasPlace (length ss)) is fits in
+    let up : i + 1 ≡ p = omega (arith, at, ap place is, h.0) in
+    let back : take (length rest - 1) (drop 1 rest) ≡ drop p ss = take_all (length rest - 1) (drop 1 rest) (omega (arith, length-drop 1 rest)) ∙ ap (drop 1) r ∙ drop-drop 1 i ss ∙ ap (λ (j : ℕ). drop j ss) up in
+    let low : i ≡ p - 1 = omega arith in
+    parts ss front _ (p - 1) p None (Some l) (f ∙ ap (λ (j : ℕ). take j ss) low) back ∙ ap (λ (x : Splice). spliced x (plains ss)) (sym is)
 
 -- a draft over a source, as the timing sees it
 pub same_line : {X E : Type 0} (K : Algebra E) (M : X → Meaning E) (a b : X) (ps qs : List Plain) → a ≡ b → ps ≡ qs → visits K (M a) ps ≡ visits K (M b) qs

@@ -1,6 +1,8 @@
 -- A draft, place by place, and what its stops are to the timing.
 use Rattle.std.proofs.Common.{◌≡◌, ℕ, zero, suc, ◌+◌, ◌-◌, ◌<◌, ◌≤◌, Bool, true, false, cond, ◌&&◌, leb, List, [], ◌∷◌, ◌++◌, map, length, get_or, is_some, Some, None, Option, sym, refl, ap, ◌∙◌, arith}
 use borrow.Author.Tests.{lt-leb}
+use Rattle.std.specs.Prelude.{MatchOption}
+use Rattle.std.specs.Option.{option_map}
 use Rattle.std.specs.List.{slice_get}
 use Rattle.std.proofs.lemmas.List.{length-map, length-append, get_or_append_left, get_or-append_right}
 use Rattle.cost.specs.Algebra.{Algebra}
@@ -49,16 +51,11 @@ behind_past (Some l) [] j h = refl
 behind_past (Some l) (s ∷ ss) zero h = absurd (omega arith)
 behind_past (Some l) (s ∷ ss) (suc j) h = behind_past None ss j (omega arith)
 
-pub behind_first : (o : Option ℕ) (l : ℕ) (ss : List Stop) (j : ℕ) (z : Stop) → o ≡ Some l → j ≡ 0 → j < length ss → slice_get (behind o (plains ss)) j ≡ Some (record { curve = (get_or ss j z).curve; leg = l })
-behind_first o l [] j z e n h = absurd (omega arith)
-behind_first o l (s ∷ ss) (suc j) z e n h = absurd (omega arith)
-behind_first o l (s ∷ ss) zero z e n h = ap (λ (q : Option ℕ). slice_get (behind q (plains (s ∷ ss))) 0) e
-
-pub behind_rest : (o : Option ℕ) (ss : List Stop) (j : ℕ) (z : Stop) → (j ≡ 0 → o ≡ None) → j < length ss → slice_get (behind o (plains ss)) j ≡ Some (plain (get_or ss j z))
-behind_rest o ss zero z n h = ap (λ (q : Option ℕ). slice_get (behind q (plains ss)) 0) (n refl) ∙ nth_map plain ss 0 z h
-behind_rest None ss (suc j) z n h = nth_map plain ss (suc j) z h
-behind_rest (Some l) [] (suc j) z n h = absurd (omega arith)
-behind_rest (Some l) (s ∷ ss) (suc j) z n h = nth_map plain ss j z (omega arith)
+pub behind_rest : (o : Option ℕ) (ss : List Stop) (j : ℕ) (s : Stop) → (j ≡ 0 → o ≡ None) → j < length ss → s ≡ get_or ss j s → Some (plain s) ≡ slice_get (behind o (plains ss)) j
+behind_rest o ss zero s n h e = ap (λ (x : Stop). Some (plain x)) e ∙ sym (nth_map plain ss 0 s h) ∙ ap (λ (q : Option ℕ). slice_get (behind q (plains ss)) 0) (sym (n refl))
+behind_rest None ss (suc j) s n h e = ap (λ (x : Stop). Some (plain x)) e ∙ sym (nth_map plain ss (suc j) s h)
+behind_rest (Some l) [] (suc j) s n h e = absurd (omega arith)
+behind_rest (Some l) (t ∷ ss) (suc j) s n h e = ap (λ (x : Stop). Some (plain x)) e ∙ sym (nth_map plain ss j s (omega arith))
 
 pub put_one : (o : Option Stop) → is_some o ≡ true → length (put_in o) ≡ 1
 put_one None e = absurd (let z : ◌≡◌ {A = ℕ} 0 1 = cc in omega arith)
@@ -113,6 +110,11 @@ module _ {E : Type 0} (K : Algebra E) (m : Meaning E) where
   pub leg_visit : (o : Option (Curve E)) (l : ℕ) → (visit K o l).leg ≡ l
   leg_visit None l = refl
   leg_visit (Some c) l = refl
+
+  -- the leg of a stop, or 0
+  pub leg_seen : (o : Option Stop) (r : ℕ) → MatchOption o (r ≡ 0) (λ s. r ≡ s.leg) → r ≡ (seen_at K m (option_map plain o)).leg
+  leg_seen None r e = e
+  leg_seen (Some s) r e = e ∙ sym (leg_visit (m.curve s.curve) s.leg)
 
   pub span_visit : (o : Option (Curve E)) (l : ℕ) → span (span_of o) ≡ ((visit K o l).first, (visit K o l).last)
   span_visit None l = refl

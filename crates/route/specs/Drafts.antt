@@ -3,11 +3,10 @@ use Rattle.std.specs.Prelude.{ℕ, List, [], ◌∷◌, ◌++◌, Some, None, Op
 use Rattle.cost.specs.Algebra.{Algebra}
 use Rattle.source.specs.Meaning.{Meaning}
 use Rattle.timing.specs.Visits.{Visit, nowhere}
-use Rattle.timing.specs.Timetables.{Feasible}
 use Rattle.route.specs.declared.stop.Stop.{Stop}
 use Rattle.route.specs.Plain.{Plain, releg, seen, visits}
 use Rattle.route.specs.Table.{plain, plains}
-use Rattle.route.specs.Joins.{Least}
+use Rattle.route.specs.Over.{Over}
 
 -- a new stop, if any
 abbrev pub put_in : Option Stop → List Plain
@@ -28,6 +27,6 @@ abbrev pub seen_at : {E : Type 0} → Algebra E → Meaning E → Option Plain �
 seen_at K m None = nowhere K
 seen_at K m (Some p) = seen K m p
 
--- where the stops ps and then qs, each under its own source's meaning, have a timetable, c is the cost of the best one
-abbrev pub LeastIfAny : {E : Type 0} → Algebra E → Meaning E → List Plain → Meaning E → List Plain → E → Type 0
-LeastIfAny K m ps n qs c = Feasible (visits K m ps ++ visits K n qs) → Least K (visits K m ps ++ visits K n qs) c
+-- one draft after another, each under its own source's meaning
+abbrev pub both : {X Y E : Type 0} → Algebra E → (X → Meaning E) → (Y → Meaning E) → Over X Plain → Over Y Plain → List (Visit E)
+both K M N a b = visits K (M a.source) a.stops ++ visits K (N b.source) b.stops

@@ -2,6 +2,8 @@ pub mod Refusals
 pub mod Plain
 pub mod Judged
 pub mod Table
+pub mod Over
+pub mod Kept
 pub mod Joins
 pub mod Drafts
 pub mod Calls

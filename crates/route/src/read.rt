@@ -1,62 +1,85 @@
-ghost use Rattle.std.specs.Prelude.{◌≡◌, slice_index};
+ghost use Rattle.std.specs.Prelude.{◌≡◌, IfOk, slice_index};
 ghost use Rattle.source.specs.Meaning.{Lawful};
 ghost use Rattle.timing.specs.Best.{Best};
-ghost use Rattle.route.specs.Table.{line, Marked};
-ghost use Rattle.route.specs.Calls.{timed, facts_at};
+ghost use Rattle.route.specs.Table.{plains, line, Marked};
+ghost use Rattle.route.specs.Calls.{timed, facts_of, facts_at};
 ghost use Rattle.route.specs.Joins.{Least};
+ghost use Rattle.route.specs.Runs.{Told};
 
+use crate::draft::Draft;
 use crate::judge::is_outside;
-use crate::remark::load;
-use crate::stop::{Facts, Refusal};
+use crate::stop::{Facts, Refusal, Stop};
 use crate::table::Route;
 use source::source::Source;
+use std::alloc::{AllocError, Global};
 use timing::minutes::{least, minute};
 
 impl<S: Source> Route<S> {
+    // The stops as the timing sees them.
+    fn draft(&self) -> Draft<'_, S>
+        ensures source { result.source ≡ self.now.source }
+        ensures stops { result.stops ≡ plains self.now.stops }
+    {
+        Draft::part(&self.source, self.stops.as_slice(), None)
+    }
+
     // The minute of stop i, counted from 0, in the timetable that the marks give.
     fn minute_at(&self, i: usize) -> u16
-        ensures { result ≡ slice_index (timed S.Kind.Cost.algebra (S.Source.meaning self.now.source) self.now.stops.items) i }
+        ensures { result ≡ slice_index (timed S.Kind.Cost.algebra (S.Source.meaning self.now.source) self.now.stops) i }
     {
-        let marks = load(self.stops.as_slice());
-        let table = self.table();
-        minute(&table, &marks, i)
+        minute(&self.draft(), &self.stops.marks(), i)
+    }
+
+    // What is told of a stop, which is stop i, counted from 0.
+    fn told(&self, i: usize, stop: Stop) -> Facts
+        ensures { result ≡ facts_of stop (slice_index (timed S.Kind.Cost.algebra (S.Source.meaning self.now.source) self.now.stops) i) }
+    {
+        Facts {
+            curve: stop.curve,
+            leg: stop.leg,
+            mark: stop.mark,
+            minute: self.minute_at(i),
+        }
     }
 
     // What is told of the stop at a place.
     pub fn facts(&self, place: usize) -> Result<Facts, Refusal>
-        ensures { result ≡ facts_at self.now.stops.items (timed S.Kind.Cost.algebra (S.Source.meaning self.now.source) self.now.stops.items) place }
+        ensures { result ≡ facts_at self.now.stops (timed S.Kind.Cost.algebra (S.Source.meaning self.now.source) self.now.stops) place }
     {
-        if is_outside(place, self.stops.len()) {
-            return Err(Refusal::Place);
+        let stops = self.stops.as_slice();
+        Refusal::Place.refuse_if(is_outside(place, stops.len()))?;
+        let i = place - 1;
+        Ok(self.told(i, stops[i]))
+    }
+
+    // The facts of all stops, in order.
+    pub(crate) fn all_facts(&self, heap: Global) -> Result<Vec<Facts>, AllocError>
+        ensures { IfOk result (λ facts. Told S.Kind.Cost.algebra (S.Source.meaning self.now.source) self.now.stops facts.items) }
+    {
+        let mut all = Vec::new(heap);
+        for (i, stop) in self.stops.as_slice().iter().enumerate() {
+            all.push(self.told(i, *stop))?;
         }
-        let stop = self.stops[place - 1];
-        Ok(Facts {
-            curve: stop.curve,
-            leg: stop.leg,
-            mark: stop.mark,
-            minute: self.minute_at(place - 1),
-        })
+        Ok(all)
     }
 
     // The cost of the timetable that the marks give.
     fn timed_cost(&self) -> S::Kind
         ensures lawful { Lawful S.Kind.Cost.algebra (S.Source.meaning self.now.source) }
-        ensures best { Marked S.Kind.Cost.algebra (S.Source.meaning self.now.source) self.now.stops.items → Best S.Kind.Cost.algebra (line S.Kind.Cost.algebra (S.Source.meaning self.now.source) self.now.stops.items) (timed S.Kind.Cost.algebra (S.Source.meaning self.now.source) self.now.stops.items) }
-        ensures least { Marked S.Kind.Cost.algebra (S.Source.meaning self.now.source) self.now.stops.items → Least S.Kind.Cost.algebra (line S.Kind.Cost.algebra (S.Source.meaning self.now.source) self.now.stops.items) (S.Kind.Cost.exact result) }
+        ensures marked { Marked S.Kind.Cost.algebra (S.Source.meaning self.now.source) self.now.stops }
+        ensures best { Best S.Kind.Cost.algebra (line S.Kind.Cost.algebra (S.Source.meaning self.now.source) self.now.stops) (timed S.Kind.Cost.algebra (S.Source.meaning self.now.source) self.now.stops) }
+        ensures least { Least S.Kind.Cost.algebra (line S.Kind.Cost.algebra (S.Source.meaning self.now.source) self.now.stops) (S.Kind.Cost.exact result) }
     {
-        // With the peak comes the promise that no sum of costs is too large.
-        let _ = self.source.peak();
-        let marks = load(self.stops.as_slice());
-        let table = self.table();
-        least(&table, &marks)
+        least(&self.draft(), &self.stops.marks())
     }
 
-    // The least cost of all timetables of the route: that of the timetable which the facts tell. With it comes the
-    // source's promise that it keeps its bounds and the law.
+    // The least cost of all timetables of the route: that of the timetable which the facts tell. With it comes what
+    // every route keeps.
     pub fn least_cost(&self) -> S::Kind
         ensures lawful { Lawful S.Kind.Cost.algebra (S.Source.meaning self.now.source) }
-        ensures best { Marked S.Kind.Cost.algebra (S.Source.meaning self.now.source) self.now.stops.items → Best S.Kind.Cost.algebra (line S.Kind.Cost.algebra (S.Source.meaning self.now.source) self.now.stops.items) (timed S.Kind.Cost.algebra (S.Source.meaning self.now.source) self.now.stops.items) }
-        ensures least { Marked S.Kind.Cost.algebra (S.Source.meaning self.now.source) self.now.stops.items → Least S.Kind.Cost.algebra (line S.Kind.Cost.algebra (S.Source.meaning self.now.source) self.now.stops.items) (S.Kind.Cost.exact result) }
+        ensures marked { Marked S.Kind.Cost.algebra (S.Source.meaning self.now.source) self.now.stops }
+        ensures best { Best S.Kind.Cost.algebra (line S.Kind.Cost.algebra (S.Source.meaning self.now.source) self.now.stops) (timed S.Kind.Cost.algebra (S.Source.meaning self.now.source) self.now.stops) }
+        ensures least { Least S.Kind.Cost.algebra (line S.Kind.Cost.algebra (S.Source.meaning self.now.source) self.now.stops) (S.Kind.Cost.exact result) }
     {
         self.timed_cost()
     }

@@ -1,13 +1,13 @@
 ghost use Rattle.std.specs.Prelude.{◌≡◌, IfOk};
-ghost use Rattle.route.specs.Table.{plains, Marked};
+ghost use Rattle.route.specs.Table.{plains};
 ghost use Rattle.route.specs.Judged.{Runs};
 ghost use Rattle.route.specs.Joins.{exactly};
 ghost use Rattle.route.specs.Guarantee.{Whole};
-ghost use Rattle.route.specs.Runs.{Told, Ran};
+ghost use Rattle.route.specs.Runs.{Ran};
 
 use crate::card::{Card, Outcome};
 use crate::join::join;
-use crate::stop::{Facts, Refusal, Splice};
+use crate::stop::{Refusal, Splice};
 use crate::table::Route;
 use source::source::Source;
 use std::alloc::{AllocError, Global};
@@ -19,28 +19,13 @@ fn make_all<S: Source>(
     splices: &[Splice],
 ) -> Result<Vec<Result<(), Refusal>>, AllocError>
     ensures source { route.new.source ≡ route.old.source }
-    ensures runs { IfOk result (λ answers. Runs S.Kind.Cost.algebra (S.Source.meaning route.old.source) (plains route.old.stops.items) splices.now answers.items (plains route.new.stops.items)) }
-    ensures marked { Marked S.Kind.Cost.algebra (S.Source.meaning route.old.source) route.old.stops.items → Marked S.Kind.Cost.algebra (S.Source.meaning route.old.source) route.new.stops.items }
+    ensures runs { IfOk result (λ answers. Runs S.Kind.Cost.algebra (S.Source.meaning route.old.source) (plains route.old.stops) splices.now answers.items (plains route.new.stops)) }
 {
     let mut answers = Vec::new(heap);
     for splice in splices {
-        let answer = route.apply(*splice);
-        answers.push(answer)?;
+        answers.push(route.apply(*splice))?;
     }
     Ok(answers)
-}
-
-// The facts of all stops, in order.
-fn all_facts<S: Source>(heap: Global, route: &Route<S>) -> Result<Vec<Facts>, AllocError>
-    ensures { IfOk result (λ facts. Told S.Kind.Cost.algebra (S.Source.meaning route.now.source) route.now.stops.items facts.items) }
-{
-    let mut all = Vec::new(heap);
-    for i in 0..route.count() {
-        if let Ok(facts) = route.facts(i + 1) {
-            all.push(facts)?;
-        }
-    }
-    Ok(all)
 }
 
 // Opens an empty route over a source, makes the splices and reads all that can be read. The route comes back with the
@@ -50,11 +35,11 @@ fn run_one<S: Source + Drop>(
     source: S,
     splices: &[Splice],
 ) -> Result<(Route<S>, Card<S::Kind>), AllocError>
-    ensures { IfOk result (λ x. Ran S.Kind.Cost.algebra S.Source.meaning source splices.now x.0.source x.0.stops.items x.1.answers.items x.1.count x.1.facts.items (S.Kind.Cost.exact x.1.least)) }
+    ensures { IfOk result (λ x. Ran S.Kind.Cost.algebra S.Source.meaning source splices.now x.0.source x.0.stops x.1.answers.items x.1.count x.1.facts.items (S.Kind.Cost.exact x.1.least)) }
 {
     let mut route = Route::open(heap, source)?;
     let answers = make_all(heap, &mut route, splices)?;
-    let facts = all_facts(heap, &route)?;
+    let facts = route.all_facts(heap)?;
     let card = Card {
         answers,
         count: route.stop_count(),

@@ -1,9 +1,12 @@
-ghost use Rattle.std.specs.Prelude.{◌≡◌, ◌-◌};
-ghost use Rattle.route.specs.Refusals.{number};
+ghost use Rattle.std.specs.Prelude.{◌≡◌, ◌-◌, Some, cond};
+ghost use Rattle.route.specs.Refusals.{number, named, refusal_text};
 ghost use Rattle.route.specs.Plain.{place};
 
+use std::fmt;
+use std::fmt::{Display, Formatter};
+
 // A record of the stop table: which curve the stop has, the minutes of travel before it, and its mark.
-#[derive(Clone, Copy)]
+#[derive(Clone, Copy, PartialEq, Eq, Debug, Default)]
 pub struct Stop {
     pub curve: u8,
     pub leg: u16,
@@ -11,7 +14,7 @@ pub struct Stop {
 }
 
 // What is told of a stop.
-#[derive(Clone, Copy, PartialEq, Eq, Debug)]
+#[derive(Clone, Copy, PartialEq, Eq, Debug, Default)]
 pub struct Facts {
     pub curve: u8,
     pub leg: u16,
@@ -20,7 +23,7 @@ pub struct Facts {
 }
 
 // A change of the stop table. Places are counted from 1.
-#[derive(Clone, Copy)]
+#[derive(Clone, Copy, PartialEq, Eq, Debug)]
 pub enum Splice {
     Insert {
         place: usize,
@@ -63,7 +66,36 @@ impl Refusal {
             Refusal::Full => 2,
             Refusal::Curve => 3,
             Refusal::Leg => 4,
-            Refusal::NoTimetable { stop: _ } => 5,
+            Refusal::NoTimetable { .. } => 5,
+        }
+    }
+
+    // The stop that a refusal names, if any.
+    pub fn stop(&self) -> Option<usize>
+        ensures { result ≡ named self.now }
+    {
+        match self {
+            Refusal::NoTimetable { stop } => Some(*stop),
+            _ => None,
+        }
+    }
+
+    // Refuses a call where a test speaks against it.
+    pub(crate) fn refuse_if(self, test: bool) -> Result<(), Refusal>
+        ensures { result ≡ cond test (Err self) (Ok tt) }
+    {
+        if test { Err(self) } else { Ok(()) }
+    }
+}
+
+// The number, and the stop that is named.
+impl Display for Refusal {
+    ghost output = { λ r. Some (refusal_text r) };
+
+    fn fmt<W: fmt::Write>(&self, f: &mut Formatter<W>) -> fmt::Result {
+        match self.stop() {
+            Some(stop) => write!(f, "{} stop {}", self.number(), stop),
+            None => write!(f, "{}", self.number()),
         }
     }
 }
@@ -74,9 +106,9 @@ impl Splice {
         ensures { result ≡ place self.now }
     {
         match self {
-            Splice::Insert { place, .. } => *place,
-            Splice::Remove { place, .. } => *place,
-            Splice::Change { place, .. } => *place,
+            Splice::Insert { place, .. }
+            | Splice::Remove { place, .. }
+            | Splice::Change { place, .. } => *place,
         }
     }
 

@@ -1,14 +1,22 @@
-ghost use Rattle.std.specs.Prelude.{◌≤◌, vec_len, vec_capacity};
-
-use crate::stop::Stop;
+use crate::stops::StopTable;
 use source::source::Source;
+use std::marker::Model;
 
-// A route owns its source, which is never altered, and a table of at most 64 stops. The table has room for all of
-// them from the start, so that no call but the opening can want memory.
+// A route owns its source, which is never altered, and a table of stops. Contracts see the source and the stops.
 #[derive(Drop)]
 pub struct Route<S: Source> {
     pub(crate) source: S,
-    pub(crate) stops: Vec<Stop>,
-    ghost few: { vec_len stops ≤ 64 },
-    ghost room: { 64 ≤ vec_capacity stops },
+    pub(crate) stops: StopTable,
+}
+
+impl<S: Source> Model for Route<S> {
+    ghost use Rattle.route.specs.declared.stop.Stop.{Stop};
+    ghost use Rattle.route.specs.Over.{Over};
+    ghost use Rattle.route.specs.Kept.{Kept};
+
+    ghost Value = { Over S Stop };
+
+    ghost view = { λ r. record { source = r.source; stops = r.stops } };
+
+    ghost invariant = { λ r. Kept S.Kind.Cost.algebra (S.Source.meaning r.source) r.stops };
 }

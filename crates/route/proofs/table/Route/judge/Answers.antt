@@ -1,40 +1,24 @@
-use Rattle.std.proofs.Common.{◌≡◌, ℕ, List, vec_items, sym, subst, arith}
+use Rattle.std.proofs.Common.{◌≡◌, Err, List, ap, ◌∙◌, rules, subst}
 use Rattle.timing.specs.Visits.{Visit}
-use Rattle.timing.specs.Timetables.{Feasible}
-use Rattle.timing.specs.Reach.{BlockedAt}
-use Rattle.route.specs.Plain.{spliced, visits}
+use Rattle.route.specs.Plain.{spliced}
 use Rattle.route.specs.Table.{plains}
-use Rattle.route.specs.Drafts.{drafted}
-use Rattle.route.specs.Judged.{refused, blocked, accepted}
+use Rattle.route.specs.Judged.{Served}
 use Rattle.route.proofs.Splices.{same_line}
-use Rattle.route.proofs.table.Route.judge.Given as given
+use Rattle.route.proofs.Judgements.{judged_refused, judged_served}
 use Rattle.route.proofs.table.Route.judge.Goals as goal
-use Rattle.route.proofs.table.Route.judge.Goals.{After-draft-draft}
 
--- the draft's stops as the timing sees them
-abbrev same : (g : given.Over) (c : After-draft-draft g) → Type 0
-same g c =
+pub returns-in_err-examine : goal.returns-in_err-examine
+returns-in_err-examine g c =
     let r = c.args.self.now in
-    let d = c.draft-draft.result in
-    visits g.S.Kind.Cost.algebra (g.S.Source.meaning d.source.now) (drafted d.front.now d.put d.back.now d.leg) ≡ visits g.S.Kind.Cost.algebra (g.S.Source.meaning r.source) (spliced c.args.splice (plains (vec_items r.stops)))
+    let e : c.from_residual.result ≡ Err c.in_err-examine.field-0.0 = search rules in
+    let t = judged_refused g.S.Kind.Cost.algebra (g.S.Source.meaning r.source) r.stops c.args.splice _ _ e c.in_err-examine.ensures in
+    record { judged = t.0; place = t.1 }
 
-same-is : (g : given.Over) (c : After-draft-draft g) → same g c
-same-is g c = same_line g.S.Kind.Cost.algebra g.S.Source.meaning _ _ _ _ c.draft-draft.ensures.source c.draft-draft.ensures.stops
-
-pub returns-in-Some : goal.returns-in-Some
-returns-in-Some g c = record {
-  judged = refused c.in-Some.refusal (sym c.in-Some.ensures);
-  free = λ e. absurd (let z : ◌≡◌ {A = ℕ} 0 1 = cc in omega arith);
-}
-
-pub returns-in-Some-first_blocked : goal.returns-in-Some-first_blocked
-returns-in-Some-first_blocked g c = record {
-  judged = blocked c.in-Some-first_blocked.stop (sym c.in_default.ensures) (subst (λ (vs : List (Visit g.row.S-Exact.Denot)). BlockedAt vs c.in-Some-first_blocked.stop) (same-is g (goal.at.returns-in-Some-first_blocked g c).After-draft-draft) c.in-Some-first_blocked.ensures);
-  free = λ e. absurd (let z : ◌≡◌ {A = ℕ} 0 1 = cc in omega arith);
-}
-
-pub returns-in-None : goal.returns-in-None
-returns-in-None g c = record {
-  judged = accepted (sym c.in_default.ensures) (subst (λ (vs : List (Visit g.row.S-Exact.Denot)). Feasible vs) (same-is g (goal.at.returns-in-None g c).After-draft-draft) c.in-None.ensures);
-  free = λ e. sym c.in_default.ensures;
-}
+pub returns : goal.returns
+returns g c =
+    let K = g.S.Kind.Cost.algebra in
+    let r = c.args.self.now in
+    let s = c.args.splice in
+    let lines = same_line K g.S.Source.meaning _ _ _ _ (c.spliced.ensures.source ∙ ap (λ v. v.source) c.self.view_is) (c.spliced.ensures.stops ∙ ap (λ l. spliced s (plains l)) c.as_slice.ensures.value ∙ ap (λ v. spliced s (plains v.stops)) c.self.view_is) in
+    let t = judged_served K (g.S.Source.meaning r.source) r.stops s c.serve.result c.in_ok-examine.ensures (subst (λ (vs : List (Visit g.row.S-Exact.Denot)). Served vs c.serve.result) lines c.serve.ensures) in
+    record { judged = t.0; place = t.1 }

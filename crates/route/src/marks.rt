@@ -1,0 +1,47 @@
+ghost use Rattle.std.specs.Prelude.{◌≤◌, List, length, Ok};
+ghost use Rattle.source.specs.Meaning.{Lawful};
+ghost use Rattle.route.specs.declared.stop.Stop.{Stop};
+ghost use Rattle.route.specs.Plain.{spliced};
+ghost use Rattle.route.specs.Table.{plains};
+ghost use Rattle.route.specs.Kept.{Kept};
+ghost use Rattle.route.specs.Judged.{HasPlace, Judged};
+ghost use Rattle.route.specs.Calls.{Altered, Refreshed, Spliced};
+
+use crate::draft::Draft;
+use crate::stop::Splice;
+use crate::stops::StopTable;
+use source::source::Source;
+use timing::marks::refresh;
+
+// Finds the marks of the stops from number `from` on anew, counted from 0.
+fn refresh_from<S: Source>(source: &S, stops: &mut StopTable, from: usize)
+    requires { Lawful S.Kind.Cost.algebra (S.Source.meaning source.now) }
+    ensures refreshed { Refreshed S.Kind.Cost.algebra (S.Source.meaning source.now) from stops.old stops.new }
+    ensures few { length stops.new ≤ 64 }
+{
+    let mut marks = stops.marks();
+    let table = Draft::part(source, stops.as_slice(), None);
+    refresh(&table, &mut marks, from);
+    stops.set_marks(&marks);
+}
+
+// Finds the marks anew after an accepted splice has altered the table ss: only those from its place on.
+fn settle<S: Source>(source: &S, stops: &mut StopTable, splice: Splice)
+    requires { Lawful S.Kind.Cost.algebra (S.Source.meaning source.now) }
+    ensures kept { (ss : List Stop) → Kept S.Kind.Cost.algebra (S.Source.meaning source.now) ss → Judged S.Kind.Cost.algebra (S.Source.meaning source.now) (plains ss) splice (Ok tt) (spliced splice (plains ss)) → Altered ss splice stops.old → Kept S.Kind.Cost.algebra (S.Source.meaning source.now) stops.new }
+    ensures spliced { (ss : List Stop) → Judged S.Kind.Cost.algebra (S.Source.meaning source.now) (plains ss) splice (Ok tt) (spliced splice (plains ss)) → Altered ss splice stops.old → Spliced S.Kind.Cost.algebra (S.Source.meaning source.now) ss splice (Ok tt) stops.new }
+{
+    refresh_from(source, stops, splice.front());
+}
+
+// Makes a splice that is accepted.
+pub(crate) fn make<S: Source>(source: &S, stops: &mut StopTable, splice: Splice)
+    requires kept { Kept S.Kind.Cost.algebra (S.Source.meaning source.now) stops.old }
+    requires place { HasPlace (length stops.old) splice }
+    requires judged { Judged S.Kind.Cost.algebra (S.Source.meaning source.now) (plains stops.old) splice (Ok tt) (spliced splice (plains stops.old)) }
+    ensures kept { Kept S.Kind.Cost.algebra (S.Source.meaning source.now) stops.new }
+    ensures spliced { Spliced S.Kind.Cost.algebra (S.Source.meaning source.now) stops.old splice (Ok tt) stops.new }
+{
+    stops.splice(splice);
+    settle(source, stops, splice);
+}

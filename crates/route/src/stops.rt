@@ -1,0 +1,139 @@
+ghost use Rattle.std.specs.Prelude.{◌≡◌, ◌+◌, ◌-◌, ◌<◌, ◌≤◌, ◌++◌, List, [], length, take, drop, IfOk};
+ghost use Rattle.route.specs.declared.stop.Splice.TheVariants.{Insert, Remove, Change};
+ghost use Rattle.route.specs.Plain.{releg};
+ghost use Rattle.route.specs.Table.{plains, marks};
+ghost use Rattle.route.specs.Judged.{HasPlace};
+ghost use Rattle.route.specs.Calls.{Altered, remarked};
+
+use crate::stop::{Splice, Stop};
+use std::alloc::{AllocError, Global};
+use std::marker::Model;
+
+// The stops of a route, at most 64. There is room for all of them from the start, so that no call but the opening can
+// want memory.
+#[derive(Drop)]
+pub(crate) struct StopTable {
+    stops: Vec<Stop>,
+}
+
+impl Model for StopTable {
+    ghost use Rattle.std.specs.Prelude.{◌≤◌, List, vec_len, vec_capacity};
+    ghost use Rattle.route.specs.declared.stop.Stop.{Stop};
+
+    ghost Value = { List Stop };
+
+    ghost view = { λ t. t.stops.items };
+
+    ghost invariant = { λ t. (vec_len t.stops ≤ 64) × (64 ≤ vec_capacity t.stops) };
+}
+
+impl StopTable {
+    // An empty table.
+    pub(crate) fn new(heap: Global) -> Result<StopTable, AllocError>
+        ensures { IfOk result (λ table. table ≡ []) }
+    {
+        let stops = Vec::with_capacity(heap, 64)?;
+        Ok(StopTable { stops })
+    }
+
+    pub(crate) fn len(&self) -> usize
+        ensures value { result ≡ length self.now }
+        ensures few { result ≤ 64 }
+    {
+        self.stops.len()
+    }
+
+    pub(crate) fn as_slice(&self) -> &[Stop]
+        ensures value { result.now ≡ self.now }
+        ensures few { length self.now ≤ 64 }
+    {
+        self.stops.as_slice()
+    }
+
+    // Gives stop i, counted from 0, if there is one, another leg.
+    fn set_leg(&mut self, i: usize, leg: u16)
+        ensures stops { plains self.new ≡ take i (plains self.old) ++ releg leg (drop i (plains self.old)) }
+        ensures marks { marks self.new ≡ marks self.old }
+    {
+        if let Some(stop) = self.stops.get_mut(i) {
+            stop.leg = leg;
+        }
+    }
+
+    // Puts a stop at a place; the next one is then reached by `leg_out`.
+    fn insert(&mut self, place: usize, stop: Stop, leg_out: u16)
+        requires from { 1 ≤ place }
+        requires to { place ≤ length self.old + 1 }
+        requires room { length self.old < 64 }
+        ensures { Altered self.old (Insert place stop.curve stop.leg leg_out) self.new }
+    {
+        self.set_leg(place - 1, leg_out);
+        let _ = self.stops.insert(place - 1, stop);
+    }
+
+    // Takes the stop at a place out; the next one is then reached by `leg`.
+    fn remove(&mut self, place: usize, leg: u16)
+        requires from { 1 ≤ place }
+        requires to { place ≤ length self.old }
+        ensures { Altered self.old (Remove place leg) self.new }
+    {
+        self.set_leg(place, leg);
+        let _ = self.stops.remove(place - 1);
+    }
+
+    // Puts another curve number on the stop at a place.
+    fn change(&mut self, place: usize, curve: u8)
+        requires from { 1 ≤ place }
+        requires to { place ≤ length self.old }
+        ensures { Altered self.old (Change place curve) self.new }
+    {
+        let stop = &mut self.stops[place - 1];
+        stop.curve = curve;
+    }
+
+    // Alters the table as the splice says; the new marks are still to be found.
+    pub(crate) fn splice(&mut self, splice: Splice)
+        requires { HasPlace (length self.old) splice }
+        ensures { Altered self.old splice self.new }
+    {
+        match splice {
+            Splice::Insert {
+                place,
+                curve,
+                leg_in,
+                leg_out,
+            } => {
+                let stop = Stop {
+                    curve,
+                    leg: leg_in,
+                    mark: 0,
+                };
+                self.insert(place, stop, leg_out);
+            }
+            Splice::Remove { place, leg } => self.remove(place, leg),
+            Splice::Change { place, curve } => self.change(place, curve),
+        }
+    }
+
+    // The marks in the table, with room for 64.
+    pub(crate) fn marks(&self) -> [u16; 64]
+        ensures marks { take (length self.now) result ≡ marks self.now }
+        ensures room { length result ≡ 64 }
+    {
+        let mut marks = [0; 64];
+        for (i, stop) in self.stops.iter().enumerate() {
+            marks[i] = stop.mark;
+        }
+        marks
+    }
+
+    // Writes marks into the table.
+    pub(crate) fn set_marks(&mut self, marks: &[u16])
+        requires { length self.old ≤ length marks.now }
+        ensures { self.new ≡ remarked self.old marks.now }
+    {
+        for i in 0..self.stops.len() {
+            self.stops[i].mark = marks[i];
+        }
+    }
+}
