@@ -13,8 +13,8 @@ use crate::stop::Refusal;
 use crate::table::Route;
 use source::source::Source;
 use timing::line::Line;
+use timing::marked::MarkedLine;
 use timing::marks::refresh;
-use timing::minutes::least;
 
 // Where two routes are joined: after the first i stops of one, by a leg, to the stops of the other from place j on.
 #[derive(Clone, Copy)]
@@ -70,7 +70,12 @@ fn least_of<L: Line>(line: &L) -> L::Kind
     requires few { length (L.visits line.now) ≤ 128 }
     ensures { Least L.Kind.Cost.algebra (L.visits line.now) (L.Kind.Cost.exact result) }
 {
-    least(line, &all_marks(line))
+    let marks = all_marks(line);
+    let marked = MarkedLine {
+        line,
+        marks: &marks,
+    };
+    marked.least()
 }
 
 impl<A: Source> Route<A> {

@@ -12,7 +12,7 @@ use crate::stop::{Facts, Refusal, Stop};
 use crate::table::Route;
 use source::source::Source;
 use std::alloc::{AllocError, Global};
-use timing::minutes::{least, minute};
+use timing::marked::MarkedLine;
 
 impl<S: Source> Route<S> {
     // The stops as the timing sees them.
@@ -27,7 +27,11 @@ impl<S: Source> Route<S> {
     fn minute_at(&self, i: usize) -> u16
         ensures { result ≡ slice_index (timed S.Kind.Cost.algebra (S.Source.meaning self.now.source) self.now.stops) i }
     {
-        minute(&self.draft(), &self.stops.marks(), i)
+        let marked = MarkedLine {
+            line: &self.draft(),
+            marks: &self.stops.marks(),
+        };
+        marked.minute(i)
     }
 
     // What is told of a stop, which is stop i, counted from 0.
@@ -70,7 +74,11 @@ impl<S: Source> Route<S> {
         ensures best { Best S.Kind.Cost.algebra (line S.Kind.Cost.algebra (S.Source.meaning self.now.source) self.now.stops) (timed S.Kind.Cost.algebra (S.Source.meaning self.now.source) self.now.stops) }
         ensures least { Least S.Kind.Cost.algebra (line S.Kind.Cost.algebra (S.Source.meaning self.now.source) self.now.stops) (S.Kind.Cost.exact result) }
     {
-        least(&self.draft(), &self.stops.marks())
+        let marked = MarkedLine {
+            line: &self.draft(),
+            marks: &self.stops.marks(),
+        };
+        marked.least()
     }
 
     // The least cost of all timetables of the route: that of the timetable which the facts tell. With it comes what
