@@ -1,7 +1,7 @@
 -- The law of reading rows: what is accepted is spelled, what is spelled is accepted, and where reading stops no
 -- lawful row is spelled.
-use Rattle.std.proofs.Common.{◌≡◌, ℕ, zero, suc, ◌+◌, ◌<◌, ◌≤◌, Bool, true, false, cond, ◌||◌, eqb, ltb, List, [], ◌∷◌, ◌++◌, length, get_or, drop, Ok, Err, Result, sym, refl, ap, ◌∙◌, subst, inl, inr, append_assoc, add-zero, zero-add, arith, length-append}
-use Rattle.std.proofs.lemmas.List.{drop_more}
+use Rattle.std.proofs.Common.{◌≡◌, ℕ, zero, suc, ◌+◌, ◌<◌, ◌≤◌, Bool, true, false, cond, ◌||◌, eqb, ltb, List, [], ◌∷◌, ◌++◌, length, get_or, take, drop, Ok, Err, Result, sym, refl, ap, ◌∙◌, subst, inl, inr, append_assoc, add-zero, zero-add, arith, length-append}
+use Rattle.std.proofs.lemmas.List.{drop_more, length-take-le}
 use Rattle.std.proofs.lemmas.Bool.{cond-false, ltb-false, eqb-false, le-ltb, ne_eqb, or_parts, or_from}
 use Rattle.source.specs.declared.due.DueRow.{DueRow}
 use Rattle.reader.specs.declared.faults.Cause.{Cause}
@@ -10,10 +10,10 @@ use Rattle.reader.specs.declared.faults.Fault.{Fault}
 use Rattle.reader.specs.declared.rows.RowsRead.{RowsRead}
 use Rattle.reader.specs.Records.{record_at}
 use Rattle.reader.specs.Causes.{at_start}
-use Rattle.reader.specs.Reading.{row_count, rows_from, end_from, over_front}
+use Rattle.reader.specs.Reading.{row_count, rows_from, end_from, rows_answer, rows_of, over_front}
 use Rattle.reader.specs.Spelling.{Rows}
 use Rattle.reader.specs.Exactly.{Holds, Stops, ReadsExactly}
-use Rattle.reader.proofs.Tables.{past_by, rows_by, end_by}
+use Rattle.reader.proofs.Tables.{past_by, rows_by, end_by, front_read}
 use Rattle.reader.proofs.Spelling.{passes, Taken, record_taken, record_found}
 
 -- the rows that are read from a byte on, up to another, are spelled between the two
@@ -170,7 +170,7 @@ stops_by bytes before n rows fault c (short, all, b, wrong) = record {
 }
 
 -- with the count passed
-pub exact_filled : (bytes : List ℕ) (before : List DueRow) (n : ℕ) → row_count bytes (length before) ≡ Ok n
+exact_filled : (bytes : List ℕ) (before : List DueRow) (n : ℕ) → row_count bytes (length before) ≡ Ok n
     → ReadsExactly bytes before (over_front (rows_from bytes n 1) before) (end_from bytes n 0 1)
 exact_filled bytes before n e =
     let c = counted bytes (length before) n e in
@@ -188,7 +188,7 @@ exact_filled bytes before n e =
     }
 
 -- with the strip refused as a whole
-pub exact_refused : (bytes : List ℕ) (before : List DueRow) (f : Fault) → row_count bytes (length before) ≡ Err f → ReadsExactly bytes before before (Err f)
+exact_refused : (bytes : List ℕ) (before : List DueRow) (f : Fault) → row_count bytes (length before) ≡ Err f → ReadsExactly bytes before before (Err f)
 exact_refused bytes before f e =
     let k : ℕ = get_or bytes 0 0 in
     record {
@@ -197,9 +197,26 @@ exact_refused bytes before f e =
       refused = λ fault err. inl (subst (λ (g : Fault). g ≡ at_start g.cause) (cc) (whole (eqb (length bytes) 0) (ltb 4096 (length bytes) || ltb 64 k) (ltb (length before) k) k f e), refl);
     }
 
+exact_by : (bytes : List ℕ) (before : List DueRow) (n : Result ℕ Fault) → row_count bytes (length before) ≡ n
+    → ReadsExactly bytes before (over_front (elim n [ Ok k ↦ rows_from bytes k 1 | Err f ↦ [] ]) before) (elim n [ Ok k ↦ end_from bytes k 0 1 | Err f ↦ Err f ])
+exact_by bytes before (Ok k) e = exact_filled bytes before k e
+exact_by bytes before (Err f) e = exact_refused bytes before f e
+
 -- the law, by what reading answers and leaves
-pub exact : (bytes : List ℕ) (before after : List DueRow) (r : Result RowsRead Fault) (n : ℕ) → row_count bytes (length before) ≡ Ok n
-    → r ≡ end_from bytes n 0 1 → after ≡ over_front (rows_from bytes n 1) before → ReadsExactly bytes before after r
-exact bytes before after r n e p q =
+exact : (bytes : List ℕ) (before after : List DueRow) (r : Result RowsRead Fault) → r ≡ rows_answer bytes (length before)
+    → after ≡ over_front (rows_of bytes (length before)) before → ReadsExactly bytes before after r
+exact bytes before after r p q =
     subst (λ (s : Result RowsRead Fault). ReadsExactly bytes before after s) (sym p)
-    (subst (λ (l : List DueRow). ReadsExactly bytes before l (end_from bytes n 0 1)) (sym q) (exact_filled bytes before n e))
+    (subst (λ (l : List DueRow). ReadsExactly bytes before l (rows_answer bytes (length before))) (sym q) (exact_by bytes before (row_count bytes (length before)) refl))
+
+-- the law, by the front of the table into which rows were read
+pub front_exact : (bytes : List ℕ) (table after : List DueRow) (r : Result RowsRead Fault) (count : ℕ) (first : Result ℕ Fault) → first ≡ Ok count
+    → first ≡ row_count bytes (length table) → r ≡ end_from bytes (length (take count table)) 0 1
+    → after ≡ over_front (rows_from bytes (length (take count table)) 1) (take count table) → ReadsExactly bytes table (after ++ drop count table) r
+front_exact bytes table after r count first was is answer read =
+    let c = counted bytes (length table) count (sym is ∙ was) in
+    let size : length (take count table) ≡ count = length-take-le count table c.fits in
+    let told : r ≡ end_from bytes count 0 1 = rw size at answer in
+    let same : rows_answer bytes (length table) ≡ end_from bytes count 0 1 =
+    ap (λ (n : Result ℕ Fault). elim n [ Ok k ↦ end_from bytes k 0 1 | Err f ↦ Err f ]) (sym is ∙ was) in
+    exact bytes table (after ++ drop count table) r (told ∙ sym same) (front_read bytes table after count first is was c.fits read)

@@ -1,8 +1,9 @@
+mod Bits
 mod Tables
 mod Spelling
 mod Exact
 mod CallSpelling
-mod Stays
+mod Words
 mod CallRuns
 mod Running
 pub mod Fronts

@@ -6,7 +6,8 @@ pub mod calls;
 pub mod faults;
 pub mod input;
 pub mod lines;
-mod records;
+mod record;
+mod row;
 pub mod rows;
 #[cfg(test)]
 mod tests;
