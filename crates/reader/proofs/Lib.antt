@@ -8,4 +8,5 @@ mod CallRuns
 mod Running
 pub mod Fronts
 pub mod SameCalls
+mod Whole
 pub mod Filling

@@ -42,6 +42,15 @@ abbrev pub end_by : List ℕ → ℕ → ℕ → Result ℕ Fault → Result Row
 end_by bytes left done (Ok next) = end_from bytes left (done + 1) next
 end_by bytes left done (Err f) = Err f
 
+-- the same of a whole strip, by what its count was
+abbrev pub rows_after : List ℕ → Result ℕ Fault → List DueRow
+rows_after bytes (Ok count) = rows_from bytes count 1
+rows_after bytes (Err f) = []
+
+abbrev pub end_after : List ℕ → Result ℕ Fault → Result RowsRead Fault
+end_after bytes (Ok count) = end_from bytes count 0 1
+end_after bytes (Err f) = Err f
+
 module _ (bytes : List ℕ) (left done at : ℕ) (table : List DueRow) (old : DueRow) where
   puts_by : done < length table → (next : ℕ) (s : Result (DueRow × ℕ) Cause) → past_by done at s ≡ Ok next
       → over_from (done + 1) (rows_from bytes left next) (set table done (entry_by old s)) ≡ over_from done (rows_by bytes left s) table
@@ -110,5 +119,5 @@ front_read bytes table after count counted is was within read =
     let size : length (take count table) ≡ count = length-take-le count table within in
     let front : after ≡ over_front (rows_from bytes count 1) (take count table) = rw size at read in
     let same : rows_of bytes (length table) ≡ rows_from bytes count 1 =
-    ap (λ (r : Result ℕ Fault). elim r [ Ok n ↦ rows_from bytes n 1 | Err f ↦ [] ]) (sym is ∙ was) in
+    ap (rows_after bytes) (sym is ∙ was) in
     ap (λ (l : List DueRow). l ++ drop count table) front ∙ (front_over (rows_from bytes count 1) table count (rows_short bytes count 1) within ∙ ap (λ (l : List DueRow). over_front l table) (sym same))

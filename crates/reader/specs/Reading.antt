@@ -42,6 +42,10 @@ rows_answer bytes room = elim (row_count bytes room) [ Ok n ↦ end_from bytes n
 abbrev pub rows_of : List ℕ → ℕ → List DueRow
 rows_of bytes room = elim (row_count bytes room) [ Ok n ↦ rows_from bytes n 1 | Err f ↦ [] ]
 
+-- with room for as many rows as a strip may have: the rows, and the byte where the calls begin
+unfoldable pub strip_answer : List ℕ → Result (List DueRow × ℕ) Fault
+strip_answer bytes = elim (rows_answer bytes 64) [ Ok got ↦ Ok (rows_of bytes 64, got.calls) | Err f ↦ Err f ]
+
 -- a table whose first entries are these rows, and whose others are as they were
 abbrev pub over_front : List DueRow → List DueRow → List DueRow
 over_front front old = front ++ drop (length front) old

@@ -9,5 +9,6 @@ pub mod lines;
 mod record;
 mod row;
 pub mod rows;
+pub mod strip;
 #[cfg(test)]
 mod tests;
