@@ -1,7 +1,7 @@
 -- The law of reading rows: what is accepted is spelled, what is spelled is accepted, and where reading stops no
 -- lawful row is spelled.
-use Rattle.std.proofs.Common.{◌≡◌, ℕ, zero, suc, ◌+◌, ◌<◌, ◌≤◌, Bool, true, false, cond, ◌||◌, eqb, ltb, List, [], ◌∷◌, ◌++◌, length, get_or, drop, Ok, Err, Result, sym, refl, ap, ◌∙◌, subst, inl, inr, append_assoc, add-zero, zero-add, arith, length-append}
-use Rattle.std.proofs.lemmas.List.{drop_more}
+use Rattle.std.proofs.Common.{◌≡◌, ℕ, zero, suc, ◌+◌, ◌<◌, ◌≤◌, Bool, true, false, cond, ◌||◌, eqb, ltb, List, [], ◌∷◌, ◌++◌, length, get_or, take, drop, Ok, Err, Result, sym, refl, ap, ◌∙◌, subst, inl, inr, append_assoc, add-zero, zero-add, arith, length-append}
+use Rattle.std.proofs.lemmas.List.{drop_more, length-take-le, take_at}
 use Rattle.std.proofs.lemmas.Bool.{cond-false, ltb-false, eqb-false, le-ltb, ne_eqb, or_parts, or_from}
 use Rattle.source.specs.declared.due.DueRow.{DueRow}
 use Rattle.reader.specs.declared.faults.Cause.{Cause}
@@ -10,10 +10,10 @@ use Rattle.reader.specs.declared.faults.Fault.{Fault}
 use Rattle.reader.specs.declared.rows.RowsRead.{RowsRead}
 use Rattle.reader.specs.Records.{record_at}
 use Rattle.reader.specs.Causes.{at_start}
-use Rattle.reader.specs.Reading.{row_count, rows_from, end_from, over_front}
+use Rattle.reader.specs.Reading.{row_count, rows_from, end_from, rows_answer, rows_of, strip_answer, over_front}
 use Rattle.reader.specs.Spelling.{Rows}
-use Rattle.reader.specs.Exactly.{Holds, Stops, ReadsExactly}
-use Rattle.reader.proofs.Tables.{past_by, rows_by, end_by}
+use Rattle.reader.specs.Exactly.{Holds, HoldsNone, Stops, ReadsExactly}
+use Rattle.reader.proofs.Tables.{past_by, rows_by, end_by, rows_after, end_after, front_read}
 use Rattle.reader.proofs.Spelling.{passes, Taken, record_taken, record_found}
 
 -- the rows that are read from a byte on, up to another, are spelled between the two
@@ -134,23 +134,33 @@ strip_is : (bytes : List ℕ) (room n : ℕ) (records : List ℕ) (next : ℕ) �
 strip_is bytes room n records next c cut =
     drop_more bytes 0 0 c.some ∙ (ap (λ k. k ∷ drop 1 bytes) c.is ∙ ap (λ l. n ∷ l) cut)
 
+holds_by : (bytes : List ℕ) (room n : ℕ) (rows : List DueRow) (got : RowsRead) → Counted bytes room n → Ended bytes n 0 1 rows (Ok got) → Holds bytes rows got.calls
+holds_by bytes room n rows got c (long, all, b) = record {
+  records = b.records;
+  rest = drop got.calls bytes;
+  short = c.short;
+  few = omega (arith, long, c.few);
+  spelled = b.spelled;
+  written = rw long (strip_is bytes room n b.records got.calls c b.cut);
+  place = b.place;
+}
+
 accepted_by : (bytes : List ℕ) (before : List DueRow) (n : ℕ) (rows : List DueRow) (got : RowsRead) → Counted bytes (length before) n → Ended bytes n 0 1 rows (Ok got)
     → (found : List DueRow) × Holds bytes found got.calls × (length found ≡ got.rows) × (length found ≤ length before) × (over_front rows before ≡ over_front found before)
-accepted_by bytes before n rows got c (long, all, b) = (
-  rows,
-  record {
-    records = b.records;
-    rest = drop got.calls bytes;
-    short = c.short;
-    few = omega (arith, long, c.few);
-    spelled = b.spelled;
-    written = rw long (strip_is bytes (length before) n b.records got.calls c b.cut);
-    place = b.place;
-  },
-  omega (arith, long, all),
-  omega (arith, long, c.fits),
-  refl,
-)
+accepted_by bytes before n rows got c end =
+    let (long, all, b) = end in
+    (rows, holds_by bytes (length before) n rows got c end, omega (arith, long, all), omega (arith, long, c.fits), refl)
+
+-- rows that a strip holds are read where there is room for them
+held_read : (bytes : List ℕ) (rows : List DueRow) (calls room : ℕ) → Holds bytes rows calls → length rows ≤ room
+    → (rows_answer bytes room ≡ Ok (record { rows = length rows; calls = calls })) × (rows_of bytes room ≡ rows)
+held_read bytes rows calls room h fits =
+    let count : row_count bytes room ≡ Ok (length rows) = counts bytes room (length rows) (held_count bytes rows calls room h fits) in
+    let on = found_rows bytes rows h.records h.rest 0 1 h.spelled (ap (drop 1) h.written) in (
+      ap (end_after bytes) count
+          ∙ (on.0 ∙ (ap (λ m. Ok (record { rows = m; calls = 1 + length h.records })) (zero-add (length rows)) ∙ ap (λ m. Ok (record { rows = length rows; calls = m })) (sym h.place))),
+      ap (rows_after bytes) count ∙ on.1,
+    )
 
 stops_by : (bytes : List ℕ) (before : List DueRow) (n : ℕ) (rows : List DueRow) (fault : Fault) → Counted bytes (length before) n → Ended bytes n 0 1 rows (Err fault)
     → Stops bytes rows fault
@@ -170,7 +180,7 @@ stops_by bytes before n rows fault c (short, all, b, wrong) = record {
 }
 
 -- with the count passed
-pub exact_filled : (bytes : List ℕ) (before : List DueRow) (n : ℕ) → row_count bytes (length before) ≡ Ok n
+exact_filled : (bytes : List ℕ) (before : List DueRow) (n : ℕ) → row_count bytes (length before) ≡ Ok n
     → ReadsExactly bytes before (over_front (rows_from bytes n 1) before) (end_from bytes n 0 1)
 exact_filled bytes before n e =
     let c = counted bytes (length before) n e in
@@ -178,17 +188,15 @@ exact_filled bytes before n e =
     record {
       accepted = λ got ok. accepted_by bytes before n rows got c (subst (Ended bytes n 0 1 rows) ok (ended bytes n 0 1));
       accepts = λ held calls h fits.
-          let same : n ≡ length held = cc (e, counts bytes (length before) (length held) (held_count bytes held calls (length before) h fits)) in
-          let on = found_rows bytes held h.records h.rest 0 1 h.spelled (ap (drop 1) h.written) in (
-            ap (λ m. end_from bytes m 0 1) same
-                ∙ (on.0 ∙ (ap (λ m. Ok (record { rows = m; calls = 1 + length h.records })) (zero-add (length held)) ∙ ap (λ m. Ok (record { rows = length held; calls = m })) (sym h.place))),
-            ap (λ (l : List DueRow). over_front l before) (ap (λ m. rows_from bytes m 1) same ∙ on.1),
+          let read = held_read bytes held calls (length before) h fits in (
+            sym (ap (end_after bytes) e) ∙ read.0,
+            ap (λ (l : List DueRow). over_front l before) (sym (ap (rows_after bytes) e) ∙ read.1),
           );
       refused = λ fault err. inr (rows, stops_by bytes before n rows fault c (subst (Ended bytes n 0 1 rows) err (ended bytes n 0 1)), refl);
     }
 
 -- with the strip refused as a whole
-pub exact_refused : (bytes : List ℕ) (before : List DueRow) (f : Fault) → row_count bytes (length before) ≡ Err f → ReadsExactly bytes before before (Err f)
+exact_refused : (bytes : List ℕ) (before : List DueRow) (f : Fault) → row_count bytes (length before) ≡ Err f → ReadsExactly bytes before before (Err f)
 exact_refused bytes before f e =
     let k : ℕ = get_or bytes 0 0 in
     record {
@@ -197,9 +205,80 @@ exact_refused bytes before f e =
       refused = λ fault err. inl (subst (λ (g : Fault). g ≡ at_start g.cause) (cc) (whole (eqb (length bytes) 0) (ltb 4096 (length bytes) || ltb 64 k) (ltb (length before) k) k f e), refl);
     }
 
+exact_by : (bytes : List ℕ) (before : List DueRow) (n : Result ℕ Fault) → row_count bytes (length before) ≡ n
+    → ReadsExactly bytes before (over_front (rows_after bytes n) before) (end_after bytes n)
+exact_by bytes before (Ok k) e = exact_filled bytes before k e
+exact_by bytes before (Err f) e = exact_refused bytes before f e
+
 -- the law, by what reading answers and leaves
-pub exact : (bytes : List ℕ) (before after : List DueRow) (r : Result RowsRead Fault) (n : ℕ) → row_count bytes (length before) ≡ Ok n
-    → r ≡ end_from bytes n 0 1 → after ≡ over_front (rows_from bytes n 1) before → ReadsExactly bytes before after r
-exact bytes before after r n e p q =
+exact : (bytes : List ℕ) (before after : List DueRow) (r : Result RowsRead Fault) → r ≡ rows_answer bytes (length before)
+    → after ≡ over_front (rows_of bytes (length before)) before → ReadsExactly bytes before after r
+exact bytes before after r p q =
     subst (λ (s : Result RowsRead Fault). ReadsExactly bytes before after s) (sym p)
-    (subst (λ (l : List DueRow). ReadsExactly bytes before l (end_from bytes n 0 1)) (sym q) (exact_filled bytes before n e))
+    (subst (λ (l : List DueRow). ReadsExactly bytes before l (rows_answer bytes (length before))) (sym q) (exact_by bytes before (row_count bytes (length before)) refl))
+
+-- the law, by the front of the table into which rows were read
+pub front_exact : (bytes : List ℕ) (table after : List DueRow) (r : Result RowsRead Fault) (count : ℕ) (first : Result ℕ Fault) → first ≡ Ok count
+    → first ≡ row_count bytes (length table) → r ≡ end_from bytes (length (take count table)) 0 1
+    → after ≡ over_front (rows_from bytes (length (take count table)) 1) (take count table) → ReadsExactly bytes table (after ++ drop count table) r
+front_exact bytes table after r count first was is answer read =
+    let c = counted bytes (length table) count (sym is ∙ was) in
+    let size : length (take count table) ≡ count = length-take-le count table c.fits in
+    let told : r ≡ end_from bytes count 0 1 = rw size at answer in
+    let same : rows_answer bytes (length table) ≡ end_from bytes count 0 1 =
+    ap (end_after bytes) (sym is ∙ was) in
+    exact bytes table (after ++ drop count table) r (told ∙ sym same) (front_read bytes table after count first is was c.fits read)
+
+-- the law, for a table with room for all rows that a strip may have
+held_by : (bytes : List ℕ) (n : Result ℕ Fault) (got : RowsRead) → row_count bytes 64 ≡ n → end_after bytes n ≡ Ok got
+    → Holds bytes (rows_after bytes n) got.calls
+held_by bytes (Ok k) got count read =
+    let rows : List DueRow = rows_from bytes k 1 in
+    holds_by bytes 64 k rows got (counted bytes 64 k count) (subst (Ended bytes k 0 1 rows) read (ended bytes k 0 1))
+held_by bytes (Err f) got count read = cc
+
+-- what a strip holds, by what reading it answered
+abbrev strip_by : List ℕ → Result RowsRead Fault → Result (List DueRow × ℕ) Fault
+strip_by bytes (Ok got) = Ok (rows_of bytes 64, got.calls)
+strip_by bytes (Err f) = Err f
+
+holds_as : (bytes : List ℕ) (rows : List DueRow) (calls : ℕ) (r : Result RowsRead Fault) → rows_answer bytes 64 ≡ r → strip_by bytes r ≡ Ok (rows, calls)
+    → Holds bytes rows calls
+holds_as bytes rows calls (Ok got) answer is =
+    let same : ◌≡◌ {A = List DueRow × ℕ} (rows_of bytes 64, got.calls) (rows, calls) = cc in
+    subst (λ (x : List DueRow × ℕ). Holds bytes x.0 x.1) same (held_by bytes (row_count bytes 64) got refl answer)
+holds_as bytes rows calls (Err f) answer is = cc
+
+-- reading answers what a strip holds, and nothing else
+pub answer_holds : (bytes : List ℕ) (rows : List DueRow) (calls : ℕ) → strip_answer bytes ≡ Ok (rows, calls) → Holds bytes rows calls
+unfolding strip_answer
+answer_holds bytes rows calls is = holds_as bytes rows calls (rows_answer bytes 64) refl is
+
+pub holds_answer : (bytes : List ℕ) (rows : List DueRow) (calls : ℕ) → Holds bytes rows calls → strip_answer bytes ≡ Ok (rows, calls)
+unfolding strip_answer
+holds_answer bytes rows calls h =
+    let read = held_read bytes rows calls 64 h h.few in
+    ap (strip_by bytes) read.0 ∙ ap (λ (l : List DueRow). Ok (l, calls)) read.1
+
+pub holds_one : (bytes : List ℕ) (rows held : List DueRow) (calls at : ℕ) → Holds bytes rows calls → Holds bytes held at → (held ≡ rows) × (at ≡ calls)
+holds_one bytes rows held calls at h k =
+    let same : ◌≡◌ {A = List DueRow × ℕ} (held, at) (rows, calls) = cc (holds_answer bytes rows calls h, holds_answer bytes held at k) in
+    (ap (λ (x : List DueRow × ℕ). x.0) same, ap (λ (x : List DueRow × ℕ). x.1) same)
+
+pub fault_answer : (bytes : List ℕ) (f : Fault) → Err f ≡ rows_answer bytes 64 → strip_answer bytes ≡ Err f
+unfolding strip_answer
+fault_answer bytes f read = ap (strip_by bytes) (sym read)
+
+pub fault_none : (bytes : List ℕ) (f : Fault) → strip_answer bytes ≡ Err f → HoldsNone bytes
+fault_none bytes f read rows calls h =
+    let again = holds_answer bytes rows calls h in
+    let no : ◌≡◌ {A = ℕ} 0 1 = cc (read, again) in
+    omega arith
+
+-- the rows at the front of a table into which a strip was read
+pub front_holds : (bytes : List ℕ) (before after rows : List DueRow) (got : RowsRead) (calls : ℕ) → ReadsExactly bytes before after (Ok got) → got.calls ≡ calls
+    → rows ≡ take got.rows after → Holds bytes rows calls
+front_holds bytes before after rows got calls exact at front =
+    let (held, holds, long, fits, over) = exact.accepted got refl in
+    let same : rows ≡ held = front ∙ (ap (take got.rows) over ∙ take_at held (drop (length held) before) got.rows long) in
+    subst (λ n. Holds bytes rows n) at (subst (λ (l : List DueRow). Holds bytes l got.calls) (sym same) holds)

@@ -1,10 +1,12 @@
+mod Bits
 mod Tables
 mod Spelling
 mod Exact
 mod CallSpelling
-mod Stays
+mod Words
 mod CallRuns
 mod Running
 pub mod Fronts
 pub mod SameCalls
+mod Whole
 pub mod Filling

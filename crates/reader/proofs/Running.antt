@@ -6,6 +6,7 @@ use Rattle.route.specs.declared.stop.Splice.{Splice}
 use Rattle.route.specs.declared.stop.Stop.{Stop}
 use Rattle.route.specs.Plain.{Plain}
 use Rattle.route.specs.Table.{plains, Marked}
+use Rattle.route.specs.Calls.{Spliced}
 use Rattle.route.specs.Judged.{Judged}
 use Rattle.reader.specs.declared.faults.Cause.{Cause}
 use Rattle.reader.specs.declared.faults.Cause.TheVariants.{CutOff, Route}
@@ -14,37 +15,62 @@ use Rattle.reader.specs.declared.faults.RefusedCall.{RefusedCall}
 use Rattle.reader.specs.declared.calls.Progress.{Progress}
 use Rattle.reader.specs.Causes.{carried}
 use Rattle.reader.specs.CallRecords.{call_at}
-use Rattle.reader.specs.Running.{fault_of, refused_at, advanced, begin, answer_of, Told, Call, Calls}
+use Rattle.reader.specs.Running.{fault_of, read_at, refused_at, advanced, begin, answer_of, Told, Call, Calls}
 use Rattle.reader.specs.Running.Call.{wrong, refused, accepted}
 use Rattle.reader.specs.Running.Calls.{past, ended, faulty, onward}
 use Rattle.reader.specs.Ran.{CallRan, Ran}
-use Rattle.reader.proofs.Stays.{refused_stays}
 use Rattle.reader.proofs.CallSpelling.{call_taken}
 use Rattle.reader.proofs.CallRuns.{ran}
 
-module _ {E : Type 0} (K : Algebra E) (m : Meaning E) (bytes : List ℕ) (here : Progress) (ps : List Plain) where
-  pub wrong_call : (n : ℕ) (why : Cause) (f : Fault) → n ≡ length ps → Err why ≡ call_at bytes here.byte n → f ≡ fault_of here why
-      → Call K m bytes here ps (Err f) ps
-  wrong_call n why f long read is =
-      subst (λ (x : Fault). Call K m bytes here ps (Err x) ps) (sym is) (wrong why (ap (call_at bytes here.byte) (sym long) ∙ sym read))
+-- what was read, by what the fault or the call is
+read_wrong : (here : Progress) (o : Result (Splice × ℕ) Cause) (f : Fault) → read_at here o ≡ Err f → (why : Cause) × (o ≡ Err why) × (f ≡ fault_of here why)
+read_wrong here (Ok x) f e = cc
+read_wrong here (Err why) f e = (why, refl, cc)
 
-  pub refused_call : (n : ℕ) (s : Splice) (next : ℕ) (x : Result (Unit {0}) RefusedCall) (call : RefusedCall) (f : Fault) (qs : List Plain)
-      → n ≡ length ps → Ok (s, next) ≡ call_at bytes here.byte n → Judged K m ps s (answer_of x) qs → x ≡ Err call → Told here x → f ≡ carried call
-      → Call K m bytes here ps (Err f) qs
-  refused_call n s next x call f qs long read judged was told is =
-      let j = subst (λ (y : Result (Unit {0}) RefusedCall). Judged K m ps s (answer_of y) qs) was judged in
-      let stays : qs ≡ ps = refused_stays K m ps s call.refusal qs j in
-      let t : call ≡ refused_at here call.refusal = subst (Told here) was told in
-      let e : f ≡ fault_of here (Route call.refusal) = is ∙ ap carried t in
-      let it = refused s next call.refusal (ap (call_at bytes here.byte) (sym long) ∙ sym read) (subst (λ (l : List Plain). Judged K m ps s (Err call.refusal) l) stays j) in
-      subst (λ (l : List Plain). Call K m bytes here ps (Err f) l) (sym stays) (subst (λ (y : Fault). Call K m bytes here ps (Err y) ps) (sym e) it)
+read_right : (here : Progress) (o : Result (Splice × ℕ) Cause) (x : Splice × ℕ) → read_at here o ≡ Ok x → o ≡ Ok x
+read_right here (Ok y) x e = let same : y ≡ x = cc in ap Ok same
+read_right here (Err why) x e = cc
 
-  pub accepted_call : (n : ℕ) (s : Splice) (next : ℕ) (x : Result (Unit {0}) RefusedCall) (there : Progress) (qs : List Plain)
-      → n ≡ length ps → Ok (s, next) ≡ call_at bytes here.byte n → Judged K m ps s (answer_of x) qs → x ≡ Ok tt → there ≡ advanced here next
-      → Call K m bytes here ps (Ok there) qs
-  accepted_call n s next x there qs long read judged was is =
-      let j = subst (λ (y : Result (Unit {0}) RefusedCall). Judged K m ps s (answer_of y) qs) was judged in
-      subst (λ (y : Progress). Call K m bytes here ps (Ok y) qs) (sym is) (accepted s next qs (ap (call_at bytes here.byte) (sym long) ∙ sym read) j)
+module _ {E : Type 0} (K : Algebra E) (m : Meaning E) (bytes : List ℕ) (here : Progress) (ss : List Stop) (n : ℕ) (r : Result (Splice × ℕ) Fault) (result : Result Progress Fault) (long : n ≡ length (plains ss)) (read : r ≡ read_at here (call_at bytes here.byte n)) where
+  at_stops : read_at here (call_at bytes here.byte (length (plains ss))) ≡ r
+  at_stops = ap (λ k. read_at here (call_at bytes here.byte k)) (sym long) ∙ sym read
+
+  pub wrong_ran : (f : Fault) → r ≡ Err f → result ≡ Err f → CallRan K m bytes here ss result ss
+  wrong_ran f was told =
+      let (why, none, is) = read_wrong here (call_at bytes here.byte (length (plains ss))) f (at_stops ∙ was) in
+      let call = subst (λ (x : Fault). Call K m bytes here (plains ss) (Err x) (plains ss)) (sym is) (wrong why none) in
+      record {
+        call = subst (λ (x : Result Progress Fault). Call K m bytes here (plains ss) x (plains ss)) (sym told) call;
+        marked = λ right. right;
+        stays = λ _. refl;
+      }
+
+  module _ (s : Splice) (next : ℕ) (x : Result (Unit {0}) RefusedCall) (ts : List Stop) (was : r ≡ Ok (s, next)) (made : Spliced K m ss s (answer_of x) ts) where
+    pub refused_ran : (call : RefusedCall) → Told here x → x ≡ Err call → result ≡ Err (carried call) → CallRan K m bytes here ss result ts
+    refused_ran call told of is =
+        let one = subst (λ (y : Result (Unit {0}) RefusedCall). Spliced K m ss s (answer_of y) ts) of made in
+        let stays : ts ≡ ss = one.stays refl in
+        let t : call ≡ refused_at here call.refusal = subst (Told here) of told in
+        let e : result ≡ Err (fault_of here (Route call.refusal)) = is ∙ ap (λ (y : RefusedCall). Err (carried y)) t in
+        let j = subst (λ (l : List Stop). Judged K m (plains ss) s (Err call.refusal) (plains l)) stays one.judged in
+        let it = refused s next call.refusal (read_right here (call_at bytes here.byte (length (plains ss))) (s, next) (at_stops ∙ was)) j in
+        record {
+          call = subst (λ (l : List Stop). Call K m bytes here (plains ss) result (plains l)) (sym stays)
+              (subst (λ (y : Result Progress Fault). Call K m bytes here (plains ss) y (plains ss)) (sym e) it);
+          marked = one.marked;
+          stays = λ _. stays;
+        }
+
+    pub accepted_ran : (there : Progress) → x ≡ Ok tt → there ≡ advanced here next → result ≡ Ok there → CallRan K m bytes here ss result ts
+    accepted_ran there of is told =
+        let one = subst (λ (y : Result (Unit {0}) RefusedCall). Spliced K m ss s (answer_of y) ts) of made in
+        let e : result ≡ Ok (advanced here next) = told ∙ ap (λ (y : Progress). Ok y) is in
+        let it = accepted s next (plains ts) (read_right here (call_at bytes here.byte (length (plains ss))) (s, next) (at_stops ∙ was)) one.judged in
+        record {
+          call = subst (λ (y : Result Progress Fault). Call K m bytes here (plains ss) y (plains ts)) (sym e) it;
+          marked = one.marked;
+          stays = λ bad. cc (ap (λ (y : Result Progress Fault). is_err y) e);
+        }
 
 -- what holds before each turn: how running ends from here on is how it ends from the byte where it began
 pub record Onward {E : Type 0} (K : Algebra E) (m : Meaning E) (bytes : List ℕ) (at : ℕ) (before : List Stop) (here : Progress) (now : List Stop) : Type 0 where

@@ -19,6 +19,10 @@ pub record Holds (strip : List ℕ) (rows : List DueRow) (calls : ℕ) : Type 0 
   pub written : strip ≡ length rows ∷ (records ++ rest)
   pub place : calls ≡ 1 + length records
 
+-- no rows that a strip may have, and calls, at all
+abbrev pub HoldsNone : List ℕ → Type 0
+HoldsNone strip = (rows : List DueRow) (calls : ℕ) → Holds strip rows calls → ⊥
+
 -- a strip that holds these rows, and then at the fault's byte, though its count asks for more, no lawful row
 pub record Stops (strip : List ℕ) (rows : List DueRow) (fault : Fault) : Type 0 where
   pub total : ℕ

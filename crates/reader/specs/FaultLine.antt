@@ -34,6 +34,14 @@ line_end (Some stop) = codes " stop " ++ (decimal stop ++ (10 ∷ []))
 abbrev pub fault_text : ℕ → ℕ → Option ℕ → List ℕ
 fault_text n byte stop = codes "fault " ++ (decimal n ++ (codes " byte " ++ (decimal byte ++ line_end stop)))
 
+-- a fault's words: its number, the byte where its record began, and the stop if one is named
+abbrev pub stop_words : Option ℕ → List ℕ
+stop_words None = []
+stop_words (Some stop) = codes " stop " ++ decimal stop
+
+abbrev pub fault_words : Fault → List ℕ
+fault_words f = codes "fault " ++ (decimal (cause_number f.cause) ++ (codes " byte " ++ (decimal f.byte ++ stop_words (stop_in f.cause))))
+
 -- a fault, with the byte where its record began
 abbrev pub fault_line : Fault → List ℕ
 fault_line f = fault_text (cause_number f.cause) f.byte (stop_in f.cause)

@@ -1,5 +1,6 @@
 pub mod Causes
 pub mod Records
+pub mod Fields
 pub mod Reading
 pub mod Spelling
 pub mod Exactly

@@ -1,5 +1,5 @@
 -- What reading a strip's rows answers, and which rows it puts into the table.
-use Rattle.std.specs.Prelude.{ℕ, zero, suc, ◌+◌, cond, ◌||◌, List, [], ◌∷◌, ◌++◌, length, drop, Ok, Err, Result, ◌==◌, nat_lt, slice_index, slice_set}
+use Rattle.std.specs.Prelude.{ℕ, zero, suc, ◌+◌, cond, ◌||◌, List, [], ◌∷◌, ◌++◌, length, drop, Ok, Err, Result, ◌==◌, nat_lt, slice_index}
 use Rattle.source.specs.declared.due.DueRow.{DueRow}
 use Rattle.reader.specs.declared.faults.Cause.TheVariants.{NoRoom, CutOff, TooLarge}
 use Rattle.reader.specs.declared.faults.Fault.{Fault}
@@ -19,9 +19,9 @@ abbrev pub past_row : List ℕ → ℕ → ℕ → Result ℕ Fault
 past_row bytes done at =
     elim (record_at bytes at) [ Ok x ↦ Ok x.1 | Err why ↦ Err (record { cause = why; count = done; byte = at }) ]
 
--- a table after the record at a byte: its row stands at this entry, if the record is right
-abbrev pub with_row : List ℕ → ℕ → ℕ → List DueRow → List DueRow
-with_row bytes done at old = elim (record_at bytes at) [ Ok x ↦ slice_set old done x.0 | Err why ↦ old ]
+-- an entry of the table after the record at a byte was read into it: its row, if the record is right
+abbrev pub entry_after : List ℕ → ℕ → DueRow → DueRow
+entry_after bytes at old = elim (record_at bytes at) [ Ok x ↦ x.0 | Err why ↦ old ]
 
 -- the rows of so many records, from a byte on, up to the first that is wrong
 abbrev pub rows_from : List ℕ → ℕ → ℕ → List DueRow
@@ -41,6 +41,10 @@ rows_answer bytes room = elim (row_count bytes room) [ Ok n ↦ end_from bytes n
 -- the rows that it reads
 abbrev pub rows_of : List ℕ → ℕ → List DueRow
 rows_of bytes room = elim (row_count bytes room) [ Ok n ↦ rows_from bytes n 1 | Err f ↦ [] ]
+
+-- with room for as many rows as a strip may have: the rows, and the byte where the calls begin
+unfoldable pub strip_answer : List ℕ → Result (List DueRow × ℕ) Fault
+strip_answer bytes = elim (rows_answer bytes 64) [ Ok got ↦ Ok (rows_of bytes 64, got.calls) | Err f ↦ Err f ]
 
 -- a table whose first entries are these rows, and whose others are as they were
 abbrev pub over_front : List DueRow → List DueRow → List DueRow

@@ -17,6 +17,11 @@ use Rattle.reader.specs.CallRecords.{call_at}
 abbrev pub fault_of : Progress → Cause → Fault
 fault_of here why = record { cause = why; count = here.count; byte = here.byte }
 
+-- what reading its record gives, with what is wrong as a fault
+abbrev pub read_at : Progress → Result (Splice × ℕ) Cause → Result (Splice × ℕ) Fault
+read_at here (Ok x) = Ok x
+read_at here (Err why) = Err (fault_of here why)
+
 -- the refusal of its call
 abbrev pub refused_at : Progress → Refusal → RefusedCall
 refused_at here why = record { refusal = why; count = here.count; byte = here.byte }

@@ -1,6 +1,7 @@
-ghost use Rattle.std.specs.Prelude.{◌≡◌, ◌<◌, ◌≤◌, length};
+ghost use Rattle.std.specs.Prelude.{◌≡◌, ◌<◌, ◌≤◌};
 ghost use Rattle.route.specs.Calls.{Spliced};
-ghost use Rattle.reader.specs.Running.{fault_of, refused_at, begin, advanced, answer_of, Told};
+ghost use Rattle.reader.specs.CallRecords.{call_at};
+ghost use Rattle.reader.specs.Running.{fault_of, read_at, refused_at, begin, advanced, answer_of, Told};
 ghost use Rattle.reader.specs.Ran.{CallRan, Ran};
 
 use crate::call::read_call;
@@ -10,7 +11,7 @@ use route::table::Route;
 use source::source::Source;
 
 // How many calls were accepted, and the byte where the next record begins.
-#[derive(Clone, Copy)]
+#[derive(Clone, Copy, PartialEq, Eq, Debug)]
 pub(crate) struct Progress {
     pub(crate) count: usize,
     pub(crate) byte: usize,
@@ -22,6 +23,14 @@ impl Progress {
         ensures { result ≡ begin at }
     {
         Progress { count: 0, byte: at }
+    }
+
+    // The call of the next record, on a route of so many stops, and where the record after it begins.
+    fn read(self, strip: &[u8], stops: usize) -> Result<(Splice, usize), Fault>
+        requires { stops ≤ 64 }
+        ensures { result ≡ read_at self (call_at strip.now self.byte stops) }
+    {
+        read_call(strip, self.byte, stops).map_err(|cause| self.fault(cause))
     }
 
     // The next record is no call.
@@ -70,10 +79,7 @@ fn apply_call<S: Source>(
     ensures spliced { Spliced S.Kind.Cost.algebra (S.Source.meaning route.old.source) route.old.stops.items splice (answer_of result) route.new.stops.items }
     ensures told { Told here result }
 {
-    match route.apply(splice) {
-        Ok(()) => Ok(()),
-        Err(refusal) => Err(here.refused(refusal)),
-    }
+    route.apply(splice).map_err(|refusal| here.refused(refusal))
 }
 
 // Reads and makes the call of the next record.
@@ -86,34 +92,9 @@ fn run_call<S: Source>(
     ensures source { route.new.source ≡ route.old.source }
     ensures ran { CallRan S.Kind.Cost.algebra (S.Source.meaning route.old.source) strip.now here route.old.stops.items result route.new.stops.items }
 {
-    match read_call(strip, here.byte, route.stop_count()) {
-        Ok((splice, next)) => {
-            apply_call(route, splice, here)?;
-            Ok(here.advanced(next))
-        }
-        Err(cause) => Err(here.fault(cause)),
-    }
-}
-
-// Runs the calls from a byte of the strip on, up to its end or to the first fault.
-fn run_from<S: Source>(route: &mut Route<S>, strip: &[u8], at: usize) -> Result<usize, Fault>
-    requires { at ≤ length strip.now }
-    ensures source { route.new.source ≡ route.old.source }
-    ensures ran { Ran S.Kind.Cost.algebra (S.Source.meaning route.old.source) strip.now at route.old.stops.items result route.new.stops.items }
-{
-    let mut here = Progress::begin(at);
-    while here.byte < strip.len() {
-        here = run_call(route, strip, here)?;
-    }
-    Ok(here.count)
-}
-
-// No call begins past the strip's end.
-fn past_end<S: Source>(route: &Route<S>, strip: &[u8], at: usize) -> Result<usize, Fault>
-    requires { length strip.now < at }
-    ensures { Ran S.Kind.Cost.algebra (S.Source.meaning route.now.source) strip.now at route.now.stops.items result route.now.stops.items }
-{
-    Err(Progress::begin(at).fault(Cause::CutOff))
+    let (splice, next) = here.read(strip, route.stop_count())?;
+    apply_call(route, splice, here)?;
+    Ok(here.advanced(next))
 }
 
 // Runs the calls from a byte of the strip on, and answers how many were accepted. It ends at the first fault; the calls
@@ -122,9 +103,12 @@ pub fn run_calls<S: Source>(route: &mut Route<S>, strip: &[u8], at: usize) -> Re
     ensures source { route.new.source ≡ route.old.source }
     ensures ran { Ran S.Kind.Cost.algebra (S.Source.meaning route.old.source) strip.now at route.old.stops.items result route.new.stops.items }
 {
-    if at > strip.len() {
-        past_end(route, strip, at)
-    } else {
-        run_from(route, strip, at)
+    let mut here = Progress::begin(at);
+    if strip.len() < at {
+        return Err(here.fault(Cause::CutOff));
     }
+    while here.byte < strip.len() {
+        here = run_call(route, strip, here)?;
+    }
+    Ok(here.count)
 }

@@ -1,10 +1,11 @@
 ghost use Rattle.std.specs.Prelude.{◌≡◌};
 ghost use Rattle.reader.specs.Causes.{cause_number, at_start, carried};
+ghost use Rattle.reader.specs.FaultLine.{stop_in};
 
 use route::stop::Refusal;
 
 // Why a strip was refused.
-#[derive(Clone, Copy)]
+#[derive(Clone, Copy, PartialEq, Eq, Debug)]
 pub enum Cause {
     // the table has fewer rows than the strip
     NoRoom,
@@ -23,7 +24,7 @@ pub enum Cause {
 }
 
 // The record at fault: how many were read or accepted before it, and the byte, counted from 0, where it begins.
-#[derive(Clone, Copy)]
+#[derive(Clone, Copy, PartialEq, Eq, Debug)]
 pub struct Fault {
     pub cause: Cause,
     pub count: usize,
@@ -31,7 +32,7 @@ pub struct Fault {
 }
 
 // A call that the route refused, the count of those accepted before it, and the byte where its record begins.
-#[derive(Clone, Copy)]
+#[derive(Clone, Copy, PartialEq, Eq, Debug)]
 pub struct RefusedCall {
     pub refusal: Refusal,
     pub count: usize,
@@ -51,6 +52,16 @@ impl Cause {
             Cause::Unlawful => 10,
             Cause::CallMap => 11,
             Cause::Route(refusal) => refusal.number(),
+        }
+    }
+
+    // The stop that the route's refusal names, if that was the cause.
+    pub fn stop(&self) -> Option<usize>
+        ensures { result ≡ stop_in self.now }
+    {
+        match self {
+            Cause::Route(Refusal::NoTimetable { stop }) => Some(*stop),
+            _ => None,
         }
     }
 

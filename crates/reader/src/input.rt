@@ -1,8 +1,12 @@
-ghost use Rattle.std.specs.Prelude.{ℕ, ◌<◌, ◌≤◌, length, take, IfOk, OnErr};
+ghost use Rattle.std.specs.Prelude.{◌≡◌, ℕ, ◌<◌, ◌≤◌, length, take, IfOk, IfSome, OnErr};
 ghost use Rattle.std.specs.Io.KnownBytes.{Consumes, IsAtEnd};
 
+use std::alloc::Global;
 use std::io;
 use std::io::Read;
+
+// One byte more than a strip may have, so that a longer one is seen to be too long.
+const ENOUGH: u64 = 4097;
 
 // Fills the buffer from its front until it is full or the input ends, and answers how many bytes came. Of an input
 // whose bytes are known: those stand at the buffer's front, and they are all of it where the buffer is not full. After
@@ -24,4 +28,21 @@ pub fn read_strip<R: Read>(input: &mut R, buffer: &mut [u8]) -> io::Result<usize
         filled += got;
     }
     Ok(filled)
+}
+
+// Reads an input to its end, or so many bytes of it.
+fn read_front<R: Read + Drop>(heap: Global, input: R, most: u64) -> io::Result<Vec<u8>>
+    ensures { IfOk result (λ v. IfSome (R.remaining input) (λ xs. v.items ≡ take most xs)) }
+{
+    let mut strip = Vec::new(heap);
+    input.take(most).read_to_end(&mut strip)?;
+    Ok(strip)
+}
+
+// Reads an input to its end, or up to the byte that makes it too long for a strip. Of an input whose bytes are known:
+// those are what came.
+pub fn read_whole<R: Read + Drop>(heap: Global, input: R) -> io::Result<Vec<u8>>
+    ensures { IfOk result (λ v. IfSome (R.remaining input) (λ xs. v.items ≡ take 4097 xs)) }
+{
+    read_front(heap, input, ENOUGH)
 }

@@ -6,7 +6,9 @@ pub mod calls;
 pub mod faults;
 pub mod input;
 pub mod lines;
-mod records;
+mod record;
+mod row;
 pub mod rows;
+pub mod strip;
 #[cfg(test)]
 mod tests;

@@ -1,9 +1,11 @@
-ghost use Rattle.std.specs.Prelude.{◌≡◌, IfOk, string_bytes};
-ghost use Rattle.reader.specs.FaultLine.{stop_of, stop_in, fault_text, fault_line, refusal_text, refusal_line};
+ghost use Rattle.std.specs.Prelude.{◌≡◌, Some, IfOk, string_bytes};
+ghost use Rattle.reader.specs.FaultLine.{stop_of, fault_words, fault_line, refusal_text, refusal_line};
 
-use crate::faults::{Cause, Fault};
+use crate::faults::Fault;
 use route::stop::Refusal;
 use std::alloc::{AllocError, Global};
+use std::fmt;
+use std::fmt::{Display, Formatter, Write};
 
 // The stop that a refusal names.
 fn stop_of(refusal: Refusal) -> Option<usize>
@@ -15,32 +17,16 @@ fn stop_of(refusal: Refusal) -> Option<usize>
     }
 }
 
-// The stop that the route's refusal names, if that was the cause.
-fn stop_in(cause: Cause) -> Option<usize>
-    ensures { result ≡ stop_in cause }
-{
-    match cause {
-        Cause::Route(refusal) => stop_of(refusal),
-        Cause::NoRoom
-        | Cause::CutOff
-        | Cause::TooLarge
-        | Cause::RowMap
-        | Cause::Unlawful
-        | Cause::CallMap => None,
-    }
-}
+// The words of a fault: its number, the byte where its record began, and the stop if one is named.
+impl Display for Fault {
+    ghost output = { λ fault. Some (fault_words fault) };
 
-fn put_fault(
-    heap: Global,
-    number: u8,
-    byte: usize,
-    stop: Option<usize>,
-) -> Result<String, AllocError>
-    ensures { IfOk result (λ s. string_bytes s ≡ fault_text number byte stop) }
-{
-    match stop {
-        Some(stop) => format!(in heap; "fault {number} byte {byte} stop {stop}\n"),
-        None => format!(in heap; "fault {number} byte {byte}\n"),
+    fn fmt<W: Write>(&self, f: &mut Formatter<W>) -> fmt::Result {
+        write!(f, "fault {} byte {}", self.cause.number(), self.byte)?;
+        match self.cause.stop() {
+            Some(stop) => write!(f, " stop {stop}"),
+            None => Ok(()),
+        }
     }
 }
 
@@ -53,11 +39,12 @@ fn put_refusal(heap: Global, number: u8, stop: Option<usize>) -> Result<String, 
     }
 }
 
-// The line of a fault: its number, the byte where its record began, and the stop if one is named.
+// The line of a fault.
+#[tactic(auto, using(crate::proofs::Words::words_ended))]
 pub fn fault_line(heap: Global, fault: Fault) -> Result<String, AllocError>
     ensures { IfOk result (λ s. string_bytes s ≡ fault_line fault) }
 {
-    put_fault(heap, fault.cause.number(), fault.byte, stop_in(fault.cause))
+    format!(in heap; "{fault}\n")
 }
 
 // The line of a refusal of a call that stands in no strip.

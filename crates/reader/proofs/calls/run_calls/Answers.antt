@@ -1,9 +1,12 @@
-use Rattle.std.proofs.Common.{◌<◌, length, vec_items, ◌∙◌, subst, arith}
+use Rattle.std.proofs.Common.{◌<◌, length, vec_items, ap, ◌∙◌, subst, arith}
 use Rattle.std.proofs.lemmas.Result.{err_from_is_err_and}
+use Rattle.reader.specs.declared.faults.Cause.TheVariants.{CutOff}
+use Rattle.reader.specs.declared.calls.Progress.{Progress}
+use Rattle.reader.specs.Running.{fault_of}
 use Rattle.reader.specs.Ran.{CallRan}
-use Rattle.reader.proofs.Running.{Onward, Further, turn, turn_further, fault_turn, last_turn}
-use Rattle.reader.proofs.calls.run_from.Given as given
-use Rattle.reader.proofs.calls.run_from.Goals as goal
+use Rattle.reader.proofs.Running.{Onward, Further, turn, turn_further, fault_turn, last_turn, past_end}
+use Rattle.reader.proofs.calls.run_calls.Given as given
+use Rattle.reader.proofs.calls.run_calls.Goals as goal
 
 -- a turn after which running goes on
 turned : (g : given.Over) (c : goal.In_ok-here g)
@@ -25,6 +28,10 @@ turned g c =
       turn_further K (M c.args.route.now.source) bytes c.args.at before here ss ts r c.loop-here.invariant.3 call there was,
       turn K (M c.args.route.now.source) bytes c.args.at before here ss ts r c.loop-here.invariant.3 call there was inside,
     )
+
+pub returns-then-strip-at-clause-ran : goal.returns-then-strip-at-clause-ran
+returns-then-strip-at-clause-ran g c =
+    past_end g.S.Kind.Cost.algebra (g.S.Source.meaning c.args.route.now.source) c.args.strip.now c.args.at (vec_items c.args.route.now.stops) c.fault.result (omega arith) (c.fault.ensures ∙ ap (λ (p : Progress). fault_of p CutOff) c.begin-here.ensures)
 
 pub returns-in_err-here : goal.returns-in_err-here
 returns-in_err-here g c =

@@ -1,6 +1,6 @@
 use Rattle.std.proofs.Common.{◌≡◌, ◌-◌, ◌≤◌, length, vec_items}
 use Rattle.reader.proofs.Running.{Onward}
-use Rattle.reader.proofs.calls.run_from.Given as goal
+use Rattle.reader.proofs.calls.run_calls.Given as goal
 
 abbrev pub invariant-loop-here : goal.invariant-loop-here
 invariant-loop-here g l =
