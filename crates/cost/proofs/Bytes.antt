@@ -1,8 +1,9 @@
 -- Bytes written over a buffer. Assumes nothing.
-use Rattle.std.specs.Prelude.{◌≡◌, ℕ, suc, ◌+◌, ◌-◌, ◌<◌, ◌≤◌, List, [], ◌∷◌, ◌++◌, length, take, drop, nat_le, slice_set}
-use Rattle.std.proofs.Common.{sym, ap, ◌∙◌, arith, length-set}
+use Rattle.std.specs.Prelude.{◌≡◌, ℕ, ◌+◌, ◌-◌, ◌≤◌, List, [], ◌∷◌, length, drop, nat_le, slice_set}
+use Rattle.std.proofs.Common.{ap, ◌∙◌, arith}
 use Rattle.std.proofs.lemmas.Bool.{cond-true, le-leb}
-use Rattle.std.proofs.lemmas.List.{append_assoc, take-append-drop, take_more_set, drop-set-lt, drop-drop}
+use Rattle.std.proofs.lemmas.List.{take-append-drop, take_more_set, drop-set-lt, drop-drop}
+use Rattle.std.proofs.lemmas.Grind.{common_steps}
 use borrow.Rule.Slice.PartMut.{put_mid}
 use Rattle.cost.specs.Texts.{put, laid}
 
@@ -13,17 +14,7 @@ laid_fits buf at text h = cond-true (nat_le (at + length text) (length buf)) (pu
 put_part : (xs buf : List ℕ) (at : ℕ) → at + length xs ≤ length buf → put_mid at (length xs) buf xs ≡ put buf at xs
 put_part [] buf at h = take-append-drop at buf
 put_part (x ∷ xs) buf at h =
-    let here : at < length buf = omega arith in
-    let next : at < at + 1 = omega arith in
-    let room : at + 1 + length xs ≤ length (slice_set buf at x) = simp length-set (omega arith) in
-    let sum : at + suc (length xs) ≡ at + 1 + length xs = omega arith in
-    let rest : drop (suc (length xs)) (drop at buf) ≡ drop (length xs) (drop (at + 1) buf) =
-    drop-drop (suc (length xs)) at buf ∙ ap (λ (n : ℕ). drop n buf) sum ∙ sym (drop-drop (length xs) (at + 1) buf) in
-    ap (λ (l : List ℕ). take at buf ++ (x ∷ (xs ++ l))) rest
-    ∙ sym (append_assoc (take at buf) (x ∷ []) (xs ++ drop (length xs) (drop (at + 1) buf)))
-    ∙ ap (λ (l : List ℕ). l ++ (xs ++ drop (length xs) (drop (at + 1) buf))) (sym (take_more_set buf at x here))
-    ∙ ap (λ (l : List ℕ). take (at + 1) (slice_set buf at x) ++ (xs ++ drop (length xs) l)) (sym (drop-set-lt (at + 1) buf at x next))
-    ∙ put_part xs (slice_set buf at x) (at + 1) room
+    grind (arith, common_steps, put_part xs (slice_set buf at x) (at + 1), take_more_set buf at x, drop-set-lt (at + 1) buf at x, drop-drop (length xs) 1 (drop at buf), drop-drop 1 at buf)
 
 -- a part of a buffer that now holds bytes of its length
 pub put_range : (buf xs ys : List ℕ) (at end : ℕ) → end ≡ at + length xs → end ≤ length buf → ys ≡ xs → put_mid at (end - at) buf ys ≡ put buf at xs

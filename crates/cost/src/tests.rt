@@ -49,3 +49,12 @@ fn texts_are_written_where_they_fit(rt: HostRuntime) {
     assert_eq!(rt; pair(0, 255).to_text().fits(5), Some(0));
     assert_eq!(rt; pair(0, 255).to_text().fits(4), None);
 }
+
+#[test]
+fn the_largest_number_has_twenty_digits(rt: HostRuntime) {
+    let mut buf = [b'-'; 20];
+    assert_eq!(rt; u64::MAX.write(&mut buf, 0), Some(20));
+    assert!(rt; buf == *b"18446744073709551615");
+    assert_eq!(rt; u64::MAX.fits(20), Some(0));
+    assert_eq!(rt; u64::MAX.fits(19), None);
+}

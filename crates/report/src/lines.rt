@@ -1,19 +1,26 @@
 ghost use Rattle.std.specs.Prelude.{length, ◌++◌};
 ghost use Rattle.cost.specs.Targets.{Puts};
-ghost use Rattle.report.specs.Reports.{count_line, stop_line, stop_lines, least_line};
+ghost use Rattle.report.specs.Reports.{item, count_line, stop_line, stop_lines, least_line};
 
-use crate::words::put_item;
 use cost::target::Target;
 use cost::text::Text;
 use route::stop::Facts;
+
+// Puts a word and a number after it.
+fn put_item<T: Target>(word: &[u8], n: u64, target: &mut T) -> Option<()>
+    ensures { Puts T.model (item word.now n) target.old target.new result }
+{
+    target.put(word)?;
+    n.put(target)
+}
 
 // Puts the line of the stop at a place.
 fn put_stop<T: Target>(place: u64, facts: &Facts, target: &mut T) -> Option<()>
     ensures { Puts T.model (stop_line place facts.now) target.old target.new result }
 {
     put_item(b"stop ", place, target)?;
-    put_item(b" curve ", facts.curve as u64, target)?;
-    put_item(b" minute ", facts.minute as u64, target)?;
+    put_item(b" curve ", u64::from(facts.curve), target)?;
+    put_item(b" minute ", u64::from(facts.minute), target)?;
     target.put(b"\n")
 }
 
