@@ -7,7 +7,7 @@ use crate::amount::Amount;
 use crate::kind::Cost;
 
 // 2^50: what is past it is answered as it.
-const TOP: u64 = 1125899906842624;
+pub(crate) const TOP: u64 = 1 << 50;
 
 impl Amount {
     // An amount of `units`, or of 2^50 where they are more.
@@ -49,10 +49,10 @@ impl Cost<u64> for Amount {
     }
 
     fn times(self, w: u8) -> Amount {
-        Amount::new(w as u64 * self.units)
+        Amount::new(u64::from(w) * self.units)
     }
 
     fn less(self, other: Amount) -> bool {
-        other.units > self.units
+        self < other
     }
 }

@@ -6,6 +6,8 @@ pub mod amounts;
 pub mod kind;
 pub mod pair;
 pub mod pairs;
+pub mod target;
 #[cfg(test)]
 mod tests;
+pub mod text;
 pub mod written;

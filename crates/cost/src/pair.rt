@@ -1,5 +1,5 @@
 // Two costs side by side.
-#[derive(Clone, Copy)]
+#[derive(Clone, Copy, PartialEq, Eq, Debug)]
 pub struct Pair<K, L> {
     pub first: K,
     pub second: L,

@@ -47,12 +47,7 @@ impl<X, Y, K: Cost<X>, L: Cost<Y>> Cost<(X, Y)> for Pair<K, L> {
     }
 
     fn less(self, other: Pair<K, L>) -> bool {
-        if self.first.less(other.first) {
-            true
-        } else if other.first.less(self.first) {
-            false
-        } else {
-            self.second.less(other.second)
-        }
+        self.first.less(other.first)
+            || !other.first.less(self.first) && self.second.less(other.second)
     }
 }

@@ -1,9 +1,9 @@
 use crate::amount::Amount;
+use crate::amounts::TOP;
 use crate::kind::Cost;
 use crate::pair::Pair;
+use crate::text::Text;
 use crate::written::Written;
-
-const TOP: u64 = 1125899906842624;
 
 fn pair(first: u64, second: u64) -> Pair<Amount, Amount> {
     Pair {
@@ -41,11 +41,20 @@ fn pairs_compare_first_parts_first(rt: HostRuntime) {
 #[test]
 fn texts_are_written_where_they_fit(rt: HostRuntime) {
     let mut buf = [b'-'; 6];
-    assert_eq!(rt; pair(0, 255).write(&mut buf, 1), Some(6));
+    assert_eq!(rt; pair(0, 255).to_text().write(&mut buf, 1), Some(6));
     assert!(rt; buf == *b"-0 255");
-    assert_eq!(rt; pair(10, 255).write(&mut buf, 1), None);
+    assert_eq!(rt; pair(10, 255).to_text().write(&mut buf, 1), None);
     assert!(rt; buf == *b"-0 255");
-    assert_eq!(rt; Amount::new(7).write(&mut buf, 6), None);
-    assert_eq!(rt; pair(0, 255).fits(5), Some(0));
-    assert_eq!(rt; pair(0, 255).fits(4), None);
+    assert_eq!(rt; Amount::new(7).to_text().write(&mut buf, 6), None);
+    assert_eq!(rt; pair(0, 255).to_text().fits(5), Some(0));
+    assert_eq!(rt; pair(0, 255).to_text().fits(4), None);
+}
+
+#[test]
+fn the_largest_number_has_twenty_digits(rt: HostRuntime) {
+    let mut buf = [b'-'; 20];
+    assert_eq!(rt; u64::MAX.write(&mut buf, 0), Some(20));
+    assert!(rt; buf == *b"18446744073709551615");
+    assert_eq!(rt; u64::MAX.fits(20), Some(0));
+    assert_eq!(rt; u64::MAX.fits(19), None);
 }

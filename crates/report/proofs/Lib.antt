@@ -1,5 +1,4 @@
-mod Lengths
+pub mod Lengths
 mod Lawfully
-mod Pieces
-mod Stops
+pub mod Stops
 mod Told

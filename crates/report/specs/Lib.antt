@@ -2,4 +2,3 @@ pub mod Refusals
 pub mod Reports
 pub mod Bounds
 pub mod Routes
-pub mod Writing

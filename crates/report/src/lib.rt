@@ -7,4 +7,3 @@ pub mod report;
 pub mod routes;
 #[cfg(test)]
 mod tests;
-mod words;

@@ -1,84 +1,53 @@
-ghost use Rattle.std.specs.Prelude.{◌≤◌, length};
-ghost use Rattle.report.specs.Reports.{count_line, stop_line, stop_lines, least_line};
-ghost use Rattle.report.specs.Writing.{Leaves, Writes};
+ghost use Rattle.std.specs.Prelude.{length, ◌++◌};
+ghost use Rattle.cost.specs.Targets.{Puts};
+ghost use Rattle.report.specs.Reports.{item, count_line, stop_line, stop_lines, least_line};
 
-use crate::words::{bytes_fit, item_fits, write_bytes, write_item};
-use cost::written::Written;
+use cost::target::Target;
+use cost::text::Text;
 use route::stop::Facts;
 
-// The room that the line of the stop at a place leaves, if it fits.
-fn stop_fits(place: u64, facts: &Facts, room: usize) -> Option<usize>
-    ensures { Leaves (stop_line place facts.now) room result }
+// Puts a word and a number after it.
+fn put_item<T: Target>(word: &[u8], n: u64, target: &mut T) -> Option<()>
+    ensures { Puts T.model (item word.now n) target.old target.new result }
 {
-    let room = item_fits(b"stop ", place, room)?;
-    let room = item_fits(b" curve ", facts.curve as u64, room)?;
-    let room = item_fits(b" minute ", facts.minute as u64, room)?;
-    bytes_fit(b"\n", room)
+    target.put(word)?;
+    n.put(target)
 }
 
-// Writes the line of the stop at a place, and answers the place in the buffer after it.
-fn write_stop(place: u64, facts: &Facts, buf: &mut [u8], at: usize) -> Option<usize>
-    ensures { Writes (stop_line place facts.now) at buf.old buf.new result }
+// Puts the line of the stop at a place.
+fn put_stop<T: Target>(place: u64, facts: &Facts, target: &mut T) -> Option<()>
+    ensures { Puts T.model (stop_line place facts.now) target.old target.new result }
 {
-    let at = write_item(b"stop ", place, buf, at)?;
-    let at = write_item(b" curve ", facts.curve as u64, buf, at)?;
-    let at = write_item(b" minute ", facts.minute as u64, buf, at)?;
-    write_bytes(b"\n", buf, at)
+    put_item(b"stop ", place, target)?;
+    put_item(b" curve ", u64::from(facts.curve), target)?;
+    put_item(b" minute ", u64::from(facts.minute), target)?;
+    target.put(b"\n")
 }
 
-// The room that the line of the stops' count leaves, if it fits.
-pub(crate) fn count_fits(count: u64, room: usize) -> Option<usize>
-    ensures { Leaves (count_line count) room result }
+// Puts the line of the stops' count.
+fn put_count<T: Target>(count: u64, target: &mut T) -> Option<()>
+    ensures { Puts T.model (count_line count) target.old target.new result }
 {
-    let room = item_fits(b"stops ", count, room)?;
-    bytes_fit(b"\n", room)
+    put_item(b"stops ", count, target)?;
+    target.put(b"\n")
 }
 
-// Writes the line of the stops' count, and answers the place after it.
-pub(crate) fn write_count(count: u64, buf: &mut [u8], at: usize) -> Option<usize>
-    ensures { Writes (count_line count) at buf.old buf.new result }
+// Puts the line of the stops' count and a line for each stop.
+pub(crate) fn put_stops<T: Target>(facts: &[Facts], target: &mut T) -> Option<()>
+    ensures { Puts T.model (count_line (length facts.now) ++ stop_lines 1 facts.now) target.old target.new result }
 {
-    let at = write_item(b"stops ", count, buf, at)?;
-    write_bytes(b"\n", buf, at)
-}
-
-// The room that the lines of the stops leave, if they fit.
-pub(crate) fn stops_fit(facts: &[Facts], room: usize) -> Option<usize>
-    ensures { Leaves (stop_lines 1 facts.now) room result }
-{
-    let mut room = room;
+    put_count(facts.len() as u64, target)?;
     for (i, stop) in facts.iter().enumerate() {
-        room = stop_fits(i as u64 + 1, stop, room)?;
+        put_stop(i as u64 + 1, stop, target)?;
     }
-    Some(room)
+    Some(())
 }
 
-// Writes the lines of the stops from a place in the buffer or at its end, and answers the place after them.
-pub(crate) fn write_stops(facts: &[Facts], buf: &mut [u8], at: usize) -> Option<usize>
-    requires { at ≤ length buf.old }
-    ensures { Writes (stop_lines 1 facts.now) at buf.old buf.new result }
+// Puts the line of the least cost, of which this is the text.
+pub(crate) fn put_least<T: Target, X: Text>(least: &X, target: &mut T) -> Option<()>
+    ensures { Puts T.model (least_line (X.bytes least.now)) target.old target.new result }
 {
-    let mut at = at;
-    for (i, stop) in facts.iter().enumerate() {
-        at = write_stop(i as u64 + 1, stop, buf, at)?;
-    }
-    Some(at)
-}
-
-// The room that the line of the least cost leaves, if it fits.
-pub(crate) fn least_fits<E, K: Written<E>>(least: K, room: usize) -> Option<usize>
-    ensures { Leaves (least_line (K.Written.text (K.Cost.exact least))) room result }
-{
-    let room = bytes_fit(b"least ", room)?;
-    let room = least.fits(room)?;
-    bytes_fit(b"\n", room)
-}
-
-// Writes the line of the least cost, and answers the place after it.
-pub(crate) fn write_least<E, K: Written<E>>(least: K, buf: &mut [u8], at: usize) -> Option<usize>
-    ensures { Writes (least_line (K.Written.text (K.Cost.exact least))) at buf.old buf.new result }
-{
-    let at = write_bytes(b"least ", buf, at)?;
-    let at = least.write(buf, at)?;
-    write_bytes(b"\n", buf, at)
+    target.put(b"least ")?;
+    least.put(target)?;
+    target.put(b"\n")
 }

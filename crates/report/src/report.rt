@@ -3,35 +3,28 @@ ghost use Rattle.cost.specs.Texts.{laid};
 ghost use Rattle.report.specs.Bounds.{Bounded};
 ghost use Rattle.report.specs.Refusals.{answer};
 ghost use Rattle.report.specs.Reports.{report_text};
-ghost use Rattle.report.specs.Writing.{Leaves, Writes};
 
-use crate::lines::{count_fits, least_fits, stops_fit, write_count, write_least, write_stops};
+use crate::lines::{put_least, put_stops};
 use crate::refusal::ReportRefusal;
+use cost::target::Target;
+use cost::text::Text;
 use cost::written::Written;
 use route::stop::Facts;
 
-// The room that the report leaves, if it fits.
-fn report_fits<E, K: Written<E>>(facts: &[Facts], least: K, room: usize) -> Option<usize>
-    ensures rest { Leaves (report_text facts.now (K.Written.text (K.Cost.exact least))) room result }
-    ensures bound { Bounded facts.now (K.Cost.algebra.size (K.Cost.exact least)) (K.Written.text (K.Cost.exact least)) K.Written.longest }
-{
-    let room = count_fits(facts.len() as u64, room)?;
-    let room = stops_fit(facts, room)?;
-    least_fits(least, room)
+// What a report tells: the stops' facts and the text of the least cost.
+#[derive(Clone, Copy)]
+struct Report<'a, X> {
+    facts: &'a [Facts],
+    least: X,
 }
 
-// Writes the report from a place of the buffer on, line by line, and answers the place after it.
-fn write_lines<E, K: Written<E>>(
-    facts: &[Facts],
-    least: K,
-    buf: &mut [u8],
-    at: usize,
-) -> Option<usize>
-    ensures { Writes (report_text facts.now (K.Written.text (K.Cost.exact least))) at buf.old buf.new result }
-{
-    let at = write_count(facts.len() as u64, buf, at)?;
-    let at = write_stops(facts, buf, at)?;
-    write_least(least, buf, at)
+impl<'a, X: Text> Text for Report<'a, X> {
+    ghost bytes = { λ r. report_text r.facts.now (X.bytes r.least) };
+
+    fn put<T: Target>(&self, target: &mut T) -> Option<()> {
+        put_stops(self.facts, target)?;
+        put_least(&self.least, target)
+    }
 }
 
 // Writes the report of stops with these facts and of their least cost into the buffer, and answers its length.
@@ -45,8 +38,9 @@ pub fn write_report<E, K: Written<E>>(
     ensures bytes { buf.new ≡ laid buf.old 0 (report_text facts.now (K.Written.text (K.Cost.exact least))) }
     ensures bound { Bounded facts.now (K.Cost.algebra.size (K.Cost.exact least)) (K.Written.text (K.Cost.exact least)) K.Written.longest }
 {
-    if report_fits(facts, least, buf.len()).is_none() {
-        return Err(ReportRefusal::BufferTooShort);
-    }
-    write_lines(facts, least, buf, 0).ok_or(ReportRefusal::BufferTooShort)
+    let report = Report {
+        facts,
+        least: least.to_text(),
+    };
+    report.write(buf, 0).ok_or(ReportRefusal::BufferTooShort)
 }

@@ -22,6 +22,7 @@ fn read_facts<S: Source>(route: &Route<S>, table: &mut [Facts; 64]) -> usize
     ensures read { take result table.new ≡ route_facts S.Kind.Cost.algebra (S.Source.meaning route.now.source) route.now.stops.items }
 {
     let count = route.stop_count();
+    // By index: after `iter_mut().enumerate()` no proof knows what the slots hold, and `array::from_fn` wants this contract again at its closure.
     for i in 0..count {
         if let Ok(stop) = route.facts(i + 1) {
             table[i] = stop;
@@ -50,6 +51,7 @@ where
     S::Kind: Written<S::Exact>,
     ensures { Reported S.Kind.Cost.algebra S.Kind.Written.text S.Kind.Written.longest (S.Source.meaning route.now.source) route.now.stops.items buf.old buf.new result }
 {
+    // An array: a report wants no memory of the heap.
     let mut table = [BLANK; 64];
     let count = read_facts(route, &mut table);
     write_route(route, &table[0..count], buf)

@@ -28,14 +28,11 @@ loop-i-preserved g c =
       | in_default w ↦ absurd (w.in_default.not-Ok (get_or fs i (facts_of blank 0)) (c.facts.ensures ∙ next (facts_of blank 0)))
     ]
 
-pub returns : goal.returns
-returns g c =
+pub returns-clause-read : goal.returns-clause-read
+returns-clause-read g c =
     let ss = vec_items c.args.route.now.stops in
     let fs = route_facts g.S.Kind.Cost.algebra (g.S.Source.meaning c.args.route.now.source) ss in
     let size = all_length g.S.Kind.Cost.algebra (g.S.Source.meaning c.args.route.now.source) ss in
     let many = length-map ss plain in
     let ended : c.stop_count-count.result ≡ c.loop-i.i = omega arith in
-    record {
-      few = omega arith;
-      read = ap (λ n. take n c.loop-i.table) ended ∙ c.loop-i.invariant.1 ∙ take_all c.loop-i.i fs (omega arith);
-    }
+    ap (λ n. take n c.loop-i.table) ended ∙ c.loop-i.invariant.1 ∙ take_all c.loop-i.i fs (omega arith)

@@ -1,0 +1,64 @@
+ghost use Rattle.std.specs.Prelude.{◌≡◌, ℕ, List, length, decimal};
+ghost use Rattle.cost.specs.Targets.{Puts};
+ghost use Rattle.cost.specs.Texts.{left, after, laid, spaced};
+
+use crate::pair::Pair;
+use crate::target::{Measure, Target, Writer};
+
+// What has a text, which it puts into any target: one that measures it, or one that writes it.
+pub trait Text {
+    ghost bytes: { Self → List ℕ };
+
+    fn put<T: Target>(&self, target: &mut T) -> Option<()>
+        ensures { Puts T.model (bytes self.now) target.old target.new result };
+
+    // The room that the text leaves, if it fits.
+    final fn fits(&self, room: usize) -> Option<usize>
+        ensures { result ≡ left (length (bytes self.now)) room }
+    {
+        let mut measure = Measure { at: 0, size: room };
+        self.put(&mut measure)?;
+        Some(room - measure.at)
+    }
+
+    // Writes the text at a place of the buffer and answers the place after it; the buffer stays where the text does not fit.
+    final fn write(&self, buf: &mut [u8], at: usize) -> Option<usize>
+        ensures place { result ≡ after (length (bytes self.now)) at (length buf.old) }
+        ensures bytes { buf.new ≡ laid buf.old at (bytes self.now) }
+    {
+        let size = buf.len();
+        self.put(&mut Measure { at, size })?;
+        let mut writer = Writer { buf, at };
+        self.put(&mut writer)?;
+        Some(writer.at)
+    }
+}
+
+// Puts a number in decimal, digit by digit: std prints one only into a string on the heap or through a formatter.
+#[tactic(auto, using(crate::proofs::Pieces::puts_digit, crate::proofs::Pieces::puts_last, crate::proofs::Pieces::puts_front))]
+fn put_decimal<T: Target>(n: u64, target: &mut T) -> Option<()>
+    ensures { Puts T.model (decimal n) target.old target.new result }
+{
+    if n >= 10 {
+        put_decimal(n / 10, target)?;
+    }
+    target.put(&[b'0' + (n % 10) as u8])
+}
+
+impl Text for u64 {
+    ghost bytes = { decimal };
+
+    fn put<T: Target>(&self, target: &mut T) -> Option<()> {
+        put_decimal(*self, target)
+    }
+}
+
+impl<A: Text, B: Text> Text for Pair<A, B> {
+    ghost bytes = { λ p. spaced (A.bytes p.first) (B.bytes p.second) };
+
+    fn put<T: Target>(&self, target: &mut T) -> Option<()> {
+        self.first.put(target)?;
+        target.put(b" ")?;
+        self.second.put(target)
+    }
+}

@@ -1,9 +1,0 @@
-use Rattle.report.specs.Reports.{newline}
-use Rattle.report.proofs.Pieces.{leaves_then, leaves_stop}
-use Rattle.report.proofs.lines.count_fits.Goals as goal
-
-pub returns-in_err-room : goal.returns-in_err-room
-returns-in_err-room c = rw c.from_residual.ensures (leaves_stop newline c.in_err-room.ensures)
-
-pub returns : goal.returns
-returns c = leaves_then c.in_ok-room.ensures c.bytes_fit.ensures
