@@ -76,7 +76,7 @@ fn apply_call<S: Source>(
     here: Progress,
 ) -> Result<(), RefusedCall>
     ensures source { route.new.source ≡ route.old.source }
-    ensures spliced { Spliced S.Kind.Cost.algebra (S.Source.meaning route.old.source) route.old.stops.items splice (answer_of result) route.new.stops.items }
+    ensures spliced { Spliced S.Kind.Cost.algebra (S.Source.meaning route.old.source) route.old.stops splice (answer_of result) route.new.stops }
     ensures told { Told here result }
 {
     route.apply(splice).map_err(|refusal| here.refused(refusal))
@@ -90,7 +90,7 @@ fn run_call<S: Source>(
 ) -> Result<Progress, Fault>
     requires { here.count ≤ here.byte }
     ensures source { route.new.source ≡ route.old.source }
-    ensures ran { CallRan S.Kind.Cost.algebra (S.Source.meaning route.old.source) strip.now here route.old.stops.items result route.new.stops.items }
+    ensures ran { CallRan S.Kind.Cost.algebra (S.Source.meaning route.old.source) strip.now here route.old.stops result route.new.stops }
 {
     let (splice, next) = here.read(strip, route.stop_count())?;
     apply_call(route, splice, here)?;
@@ -101,7 +101,7 @@ fn run_call<S: Source>(
 // accepted before it stand.
 pub fn run_calls<S: Source>(route: &mut Route<S>, strip: &[u8], at: usize) -> Result<usize, Fault>
     ensures source { route.new.source ≡ route.old.source }
-    ensures ran { Ran S.Kind.Cost.algebra (S.Source.meaning route.old.source) strip.now at route.old.stops.items result route.new.stops.items }
+    ensures ran { Ran S.Kind.Cost.algebra (S.Source.meaning route.old.source) strip.now at route.old.stops result route.new.stops }
 {
     let mut here = Progress::begin(at);
     if strip.len() < at {

@@ -19,7 +19,7 @@ const BLANK: Facts = Facts {
 // Reads the facts of all stops into the front of a table, and answers how many stops there are.
 fn read_facts<S: Source>(route: &Route<S>, table: &mut [Facts; 64]) -> usize
     ensures few { result ≤ 64 }
-    ensures read { take result table.new ≡ route_facts S.Kind.Cost.algebra (S.Source.meaning route.now.source) route.now.stops.items }
+    ensures read { take result table.new ≡ route_facts S.Kind.Cost.algebra (S.Source.meaning route.now.source) route.now.stops }
 {
     let count = route.stop_count();
     // By index: after `iter_mut().enumerate()` no proof knows what the slots hold, and `array::from_fn` wants this contract again at its closure.
@@ -39,7 +39,7 @@ fn write_route<S: Source>(
 ) -> Result<usize, ReportRefusal>
 where
     S::Kind: Written<S::Exact>,
-    ensures { facts.now ≡ route_facts S.Kind.Cost.algebra (S.Source.meaning route.now.source) route.now.stops.items → Reported S.Kind.Cost.algebra S.Kind.Written.text S.Kind.Written.longest (S.Source.meaning route.now.source) route.now.stops.items buf.old buf.new result }
+    ensures { facts.now ≡ route_facts S.Kind.Cost.algebra (S.Source.meaning route.now.source) route.now.stops → Reported S.Kind.Cost.algebra S.Kind.Written.text S.Kind.Written.longest (S.Source.meaning route.now.source) route.now.stops buf.old buf.new result }
 {
     write_report(facts, route.least_cost(), buf)
 }
@@ -49,7 +49,7 @@ where
 pub fn report<S: Source>(route: &Route<S>, buf: &mut [u8]) -> Result<usize, ReportRefusal>
 where
     S::Kind: Written<S::Exact>,
-    ensures { Reported S.Kind.Cost.algebra S.Kind.Written.text S.Kind.Written.longest (S.Source.meaning route.now.source) route.now.stops.items buf.old buf.new result }
+    ensures { Reported S.Kind.Cost.algebra S.Kind.Written.text S.Kind.Written.longest (S.Source.meaning route.now.source) route.now.stops buf.old buf.new result }
 {
     // An array: a report wants no memory of the heap.
     let mut table = [BLANK; 64];

@@ -26,8 +26,8 @@ fn report_bytes<S: Source>(heap: Global, route: &Route<S>) -> Result<Vec<u8>, Al
 where
     S::Kind: Written<S::Exact>,
     requires short { S.Kind.Written.longest ≤ 100 }
-    requires marked { Marked S.Kind.Cost.algebra (S.Source.meaning route.now.source) route.now.stops.items }
-    ensures { IfOk result (λ v. ReportOf S.Kind.Cost.algebra S.Kind.Written.text (S.Source.meaning route.now.source) route.now.stops.items v.items) }
+    requires marked { Marked S.Kind.Cost.algebra (S.Source.meaning route.now.source) route.now.stops }
+    ensures { IfOk result (λ v. ReportOf S.Kind.Cost.algebra S.Kind.Written.text (S.Source.meaning route.now.source) route.now.stops v.items) }
 {
     let mut buffer = [0; LONGEST];
     match report(route, &mut buffer) {
@@ -46,7 +46,7 @@ pub(crate) fn show<S: Source + Drop>(
 where
     S::Kind: Written<S::Exact>,
     requires { S.Kind.Written.longest ≤ 100 }
-    ensures { IfOk result (λ s. Shows S.Kind.Cost.algebra S.Kind.Written.text S.Source.meaning source strip.now from s.ended s.report.items s.route.source s.route.stops.items) }
+    ensures { IfOk result (λ s. Shows S.Kind.Cost.algebra S.Kind.Written.text S.Source.meaning source strip.now from s.ended s.report.items s.route.source s.route.stops) }
 {
     let mut route = Route::open(heap, source)?;
     let ended = run_calls(&mut route, strip, from);

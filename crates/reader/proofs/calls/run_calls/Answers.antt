@@ -11,16 +11,16 @@ use Rattle.reader.proofs.calls.run_calls.Goals as goal
 -- a turn after which running goes on
 turned : (g : given.Over) (c : goal.In_ok-here g)
     → Further c.args.strip.now c.loop-here.here c.in_ok-here.here
-    × Onward g.S.Kind.Cost.algebra (g.S.Source.meaning c.args.route.now.source) c.args.strip.now c.args.at (vec_items c.args.route.now.stops) c.in_ok-here.here (vec_items c.run_call.new.route.stops)
+    × Onward g.S.Kind.Cost.algebra (g.S.Source.meaning c.args.route.now.source) c.args.strip.now c.args.at c.args.route.now.stops c.in_ok-here.here c.run_call.new.route.stops
 turned g c =
     let K = g.S.Kind.Cost.algebra in
     let M = g.S.Source.meaning in
     let bytes = c.args.strip.now in
-    let before = vec_items c.args.route.now.stops in
+    let before = c.args.route.now.stops in
     let here = c.loop-here.here in
     let there = c.in_ok-here.here in
-    let ss = vec_items c.loop-here.route.stops in
-    let ts = vec_items c.run_call.new.route.stops in
+    let ss = c.loop-here.route.stops in
+    let ts = c.run_call.new.route.stops in
     let r = c.run_call.result in
     let call = subst (λ (x : g.row.S.Denot). CallRan K (M x) bytes here ss r ts) c.loop-here.invariant.2 c.run_call.ensures.ran in
     let was = c.in_ok-here.was in
@@ -31,17 +31,17 @@ turned g c =
 
 pub returns-then-strip-at-clause-ran : goal.returns-then-strip-at-clause-ran
 returns-then-strip-at-clause-ran g c =
-    past_end g.S.Kind.Cost.algebra (g.S.Source.meaning c.args.route.now.source) c.args.strip.now c.args.at (vec_items c.args.route.now.stops) c.fault.result (omega arith) (c.fault.ensures ∙ ap (λ (p : Progress). fault_of p CutOff) c.begin-here.ensures)
+    past_end g.S.Kind.Cost.algebra (g.S.Source.meaning c.args.route.now.source) c.args.strip.now c.args.at c.args.route.now.stops c.fault.result (omega arith) (c.fault.ensures ∙ ap (λ (p : Progress). fault_of p CutOff) c.begin-here.ensures)
 
 pub returns-in_err-here : goal.returns-in_err-here
 returns-in_err-here g c =
     let K = g.S.Kind.Cost.algebra in
     let M = g.S.Source.meaning in
     let bytes = c.args.strip.now in
-    let before = vec_items c.args.route.now.stops in
+    let before = c.args.route.now.stops in
     let here = c.loop-here.here in
-    let ss = vec_items c.loop-here.route.stops in
-    let ts = vec_items c.run_call.new.route.stops in
+    let ss = c.loop-here.route.stops in
+    let ts = c.run_call.new.route.stops in
     let r = c.run_call.result in
     let call = subst (λ (x : g.row.S.Denot). CallRan K (M x) bytes here ss r ts) c.loop-here.invariant.2 c.run_call.ensures.ran in
     let told = err_from_is_err_and c.from_residual.result c.from_residual.ensures.1 in
@@ -66,5 +66,5 @@ loop-here-preserved g c =
 pub returns : goal.returns
 returns g c = record {
   source = c.loop-here.invariant.2;
-  ran = last_turn g.S.Kind.Cost.algebra (g.S.Source.meaning c.args.route.now.source) c.args.strip.now c.args.at (vec_items c.args.route.now.stops) c.loop-here.here (vec_items c.loop-here.route.stops) c.loop-here.invariant.3 (omega arith);
+  ran = last_turn g.S.Kind.Cost.algebra (g.S.Source.meaning c.args.route.now.source) c.args.strip.now c.args.at c.args.route.now.stops c.loop-here.here c.loop-here.route.stops c.loop-here.invariant.3 (omega arith);
 }

@@ -10,7 +10,7 @@ use Rattle.report.proofs.routes.read_facts.Goals.{in-Ok, in_default}
 
 pub loop-i-preserved : goal.loop-i-preserved
 loop-i-preserved g c =
-    let ss = vec_items c.args.route.now.stops in
+    let ss = c.args.route.now.stops in
     let K = g.S.Kind.Cost.algebra in
     let m = g.S.Source.meaning c.args.route.now.source in
     let fs = route_facts K m ss in
@@ -30,7 +30,7 @@ loop-i-preserved g c =
 
 pub returns-clause-read : goal.returns-clause-read
 returns-clause-read g c =
-    let ss = vec_items c.args.route.now.stops in
+    let ss = c.args.route.now.stops in
     let fs = route_facts g.S.Kind.Cost.algebra (g.S.Source.meaning c.args.route.now.source) ss in
     let size = all_length g.S.Kind.Cost.algebra (g.S.Source.meaning c.args.route.now.source) ss in
     let many = length-map ss plain in

@@ -4,4 +4,4 @@ use Rattle.report.proofs.routes.read_facts.Given as goal
 
 -- the table holds the facts so far
 abbrev pub invariant-loop-i : goal.invariant-loop-i
-invariant-loop-i g l = (length l.table ≡ 64) × (take l.i l.table ≡ take l.i (route_facts g.S.Kind.Cost.algebra (g.S.Source.meaning l.route.source) (vec_items l.route.stops)))
+invariant-loop-i g l = (length l.table ≡ 64) × (take l.i l.table ≡ take l.i (route_facts g.S.Kind.Cost.algebra (g.S.Source.meaning l.route.source) l.route.stops))

@@ -10,7 +10,7 @@ use Rattle.report.proofs.routes.write_route.Goals as goal
 
 pub returns : goal.returns
 returns g c = λ e.
-    let ss = vec_items c.args.route.now.stops in
+    let ss = c.args.route.now.stops in
     let K = g.S.Kind.Cost.algebra in
     let m = g.S.Source.meaning c.args.route.now.source in
     let buf = c.args.buf.now in

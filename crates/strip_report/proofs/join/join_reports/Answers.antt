@@ -19,7 +19,7 @@ joined_count-count-requires c =
     let a = c.in_ok-a.a.route in
     let b = c.in_ok-b.b.route in
     record {
-      front = omega (arith, a.few, a.stops.ok.0, length-map (vec_items a.stops) plain, c.stop_count.ensures);
+      front = omega (arith, a.few, a.stops.ok.0, length-map (vec_items a.stops) plain, c.stop_count.ensures.value);
       back = omega (arith, b.few, b.stops.ok.0, length-map (vec_items b.stops) plain, c.stop_count-2.ensures);
     }
 
@@ -56,7 +56,7 @@ returns c =
     subst (λ (l : List DueRow). JoinJudged whole (due_meaning rows) ps i leg (due_meaning l) qs j result) book-too
     (subst (λ (l : List DueRow). JoinJudged whole (due_meaning l) ps i leg (due_meaning (vec_items two.route.source.rows)) qs j result) book c.join-joined.ensures) in
     let count : n ≡ min i (length ps) + (length qs - (j - 1)) =
-    c.joined_count-count.ensures ∙ ap (λ (k : ℕ). min i k + (c.stop_count-2.result - (j - 1))) c.stop_count.ensures ∙ ap (λ (k : ℕ). min i (length ps) + (k - (j - 1))) c.stop_count-2.ensures in
+    c.joined_count-count.ensures ∙ ap (λ (k : ℕ). min i k + (c.stop_count-2.result - (j - 1))) c.stop_count.ensures.value ∙ ap (λ (k : ℕ). min i (length ps) + (k - (j - 1))) c.stop_count-2.ensures in
     let front = c.as_slice-3.ensures.value ∙ c.in_ok-front.ensures ∙ ap (λ (l : List ℕ). half_text (codes "first") l r) c.as_slice.ensures.value in
     let back = c.as_slice-4.ensures.value ∙ c.in_ok-back.ensures ∙ ap (λ (l : List ℕ). half_text (codes "second") l s) c.as_slice-2.ensures.value in
     let last = c.as_str.ensures.value ∙ c.in_ok-last.ensures in

@@ -7,8 +7,8 @@ returns g c =
     shows g.S.Kind.Cost.algebra g.S.Kind.Written.text g.S.Source.meaning c.args.source c.args.strip.now c.args.from
     c.in_ok-route.route.source
     c.run_calls-ended.new.route.source
-    (vec_items c.in_ok-route.route.stops)
-    (vec_items c.run_calls-ended.new.route.stops)
+    c.in_ok-route.route.stops
+    c.run_calls-ended.new.route.stops
     c.run_calls-ended.result
     (vec_items c.in_ok-report.report)
     c.in_ok-route.ensures.source
