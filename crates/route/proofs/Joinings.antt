@@ -1,5 +1,5 @@
 -- Joined stops: their least cost, and their line.
-use Rattle.std.proofs.Common.{◌≡◌, ℕ, ◌+◌, ◌-◌, ◌≤◌, List, [], ◌++◌, length, take, drop, Some, None, Err, Result, refl, sym, ap, ◌∙◌, subst, arith}
+use Rattle.std.proofs.Common.{◌≡◌, ℕ, ◌+◌, ◌-◌, ◌≤◌, List, [], ◌∷◌, ◌++◌, length, take, drop, Some, None, Ok, Err, Option, Result, refl, sym, ap, ◌∙◌, subst, arith}
 use Rattle.std.proofs.lemmas.List.{length-map, length-append, length-take, length-drop}
 use Rattle.cost.specs.Algebra.{Algebra}
 use Rattle.source.specs.Meaning.{Meaning}
@@ -14,13 +14,13 @@ use Rattle.route.specs.Table.{plain, plains}
 use Rattle.route.specs.Kept.{Kept}
 use Rattle.route.specs.Refusals.{number}
 use Rattle.route.specs.Judged.{Served}
-use Rattle.route.specs.Joins.{joined, objection_to_join, JoinJudged, exactly, refused, blocked}
-use Rattle.route.proofs.Views.{length_releg}
+use Rattle.route.specs.Joins.{Least, joined, objection_to_join, JoinJudged, exactly, refused, blocked, accepted}
 use Rattle.route.proofs.Splices.{same_line}
 use Rattle.route.proofs.Soundness.{lawful_sound, sound_append}
 
-pub no_marks : {E : Type 0} (K : Algebra E) → Marks K [] []
-no_marks K = record { many = refl; each = λ i h. absurd (omega arith) }
+length_releg : (l : ℕ) (ps : List Plain) → length (releg l ps) ≡ length ps
+length_releg l [] = refl
+length_releg l (p ∷ ps) = refl
 
 -- two parts of tables as the timing sees them
 pub same_joined : {X Y E : Type 0} (K : Algebra E) (M : X → Meaning E) (N : Y → Meaning E) (a : X) (b : X) (c d : Y) (ps qs rs us : List Plain) → a ≡ b → ps ≡ qs → c ≡ d → rs ≡ us → visits K (M a) ps ++ visits K (N c) rs ≡ visits K (M b) qs ++ visits K (N d) us
@@ -50,21 +50,26 @@ module _ {E : Type 0} (K : Algebra E) (m n : Meaning E) (ss ts : List Stop) (i l
       let g = length-map back (seen K n) in
       sound_append K (visits K m front) (visits K n back) (lawful_sound K m a.lawful front (omega (arith, front_few))) (lawful_sound K n b.lawful back (omega (arith, back_few))) (omega (arith, f, g, front_few, back_few))
 
--- the examinations, with the counts of two tables
-pub same_objection : (a b c d i leg j : ℕ) → a ≡ c → b ≡ d → objection_to_join a i leg b j ≡ objection_to_join c i leg d j
-same_objection a b c d i leg j e f = ap (λ (n : ℕ). objection_to_join n i leg b j) e ∙ ap (λ (n : ℕ). objection_to_join c i leg n j) f
+-- how a join is answered, where the code counts k and l stops and has drafted the stops vs
+module _ {V E : Type 0} (exact : V → E) (K : Algebra E) (m n : Meaning E) (ps qs : List Plain) (i leg j k l : ℕ) (e : k ≡ length ps) (f : l ≡ length qs) where
+  abbrev pub Says : Result V Refusal → Type 0
+  Says a = JoinJudged K m ps i leg n qs j (exactly exact a)
 
--- how a join is answered
-module _ {V E : Type 0} (exact : V → E) (K : Algebra E) (m n : Meaning E) (ps qs : List Plain) (i leg j : ℕ) where
-  pub join_refused : (a : Result V Refusal) (r : Refusal) → a ≡ Err r → Some (number r) ≡ objection_to_join (length ps) i leg (length qs) j → JoinJudged K m ps i leg n qs j (exactly exact a)
-  join_refused a r e o = subst (λ (x : Result V Refusal). JoinJudged K m ps i leg n qs j (exactly exact x)) (sym e) (refused r (sym o))
+  same : (o : Option ℕ) → o ≡ objection_to_join k i leg l j → objection_to_join (length ps) i leg (length qs) j ≡ o
+  same o t = sym (t ∙ ap (λ (x : ℕ). objection_to_join x i leg l j) e ∙ ap (λ (x : ℕ). objection_to_join (length ps) i leg x j) f)
 
-  join_stopped : (r : Refusal) → None ≡ objection_to_join (length ps) i leg (length qs) j → Served (joined K m ps i leg n qs j) (Err r) → JoinJudged K m ps i leg n qs j (Err r)
-  join_stopped Place o t = absurd t
-  join_stopped Full o t = absurd t
-  join_stopped Curve o t = absurd t
-  join_stopped Leg o t = absurd t
-  join_stopped (NoTimetable f) o t = blocked f (sym o) t
+  pub join_refused : (a : Result V Refusal) (r : Refusal) → a ≡ Err r → Some (number r) ≡ objection_to_join k i leg l j → Says a
+  join_refused a r b o = subst Says (sym b) (refused r (same (Some (number r)) o))
 
-  pub join_blocked : (a : Result V Refusal) (r : Refusal) → a ≡ Err r → None ≡ objection_to_join (length ps) i leg (length qs) j → Served (joined K m ps i leg n qs j) (Err r) → JoinJudged K m ps i leg n qs j (exactly exact a)
-  join_blocked a r e o t = subst (λ (x : Result V Refusal). JoinJudged K m ps i leg n qs j (exactly exact x)) (sym e) (join_stopped r o t)
+  stopped : (r : Refusal) → objection_to_join (length ps) i leg (length qs) j ≡ None → Served (joined K m ps i leg n qs j) (Err r) → Says (Err r)
+  stopped Place o t = absurd t
+  stopped Full o t = absurd t
+  stopped Curve o t = absurd t
+  stopped Leg o t = absurd t
+  stopped (NoTimetable x) o t = blocked x o t
+
+  pub join_blocked : (a : Result V Refusal) (r : Refusal) (vs : List (Visit E)) → a ≡ Err r → None ≡ objection_to_join k i leg l j → vs ≡ joined K m ps i leg n qs j → Served vs (Err r) → Says a
+  join_blocked a r vs b o h t = subst Says (sym b) (stopped r (same None o) (subst (λ (ws : List (Visit E)). Served ws (Err r)) h t))
+
+  pub join_accepted : (c : V) (vs : List (Visit E)) → None ≡ objection_to_join k i leg l j → vs ≡ joined K m ps i leg n qs j → Least K vs (exact c) → Says (Ok c)
+  join_accepted c vs o h t = accepted (exact c) (same None o) (subst (λ (ws : List (Visit E)). Least K ws (exact c)) h t)

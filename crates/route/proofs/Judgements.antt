@@ -9,7 +9,7 @@ use Rattle.route.specs.declared.stop.Refusal.{Refusal}
 use Rattle.route.specs.declared.stop.Refusal.TheVariants.{Place, Full, Curve, Leg, NoTimetable}
 use Rattle.route.specs.declared.stop.Splice.{Splice}
 use Rattle.route.specs.Refusals.{number}
-use Rattle.route.specs.Plain.{spliced, visits}
+use Rattle.route.specs.Plain.{Plain, spliced, visits}
 use Rattle.route.specs.Table.{plain, plains}
 use Rattle.route.specs.Judged.{Answer, objection, HasPlace, Served, Judged, refused, blocked, accepted}
 use Rattle.route.specs.Calls.{left}
@@ -23,10 +23,14 @@ module _ {E : Type 0} (K : Algebra E) (m : Meaning E) (ss : List Stop) (s : Spli
   pub judged_refused : (a : Answer) (r : Refusal) → a ≡ Err r → Some (number r) ≡ objection m (plains ss) s → Told a
   judged_refused a r e o = subst Told (sym e) (refused r (sym o), tt)
 
-  pub judged_served : (r : Answer) → None ≡ objection m (plains ss) s → Served (visits K m (spliced s (plains ss))) r → Told r
-  judged_served (Ok x) o t = (accepted (sym o) t, subst (λ (n : ℕ). HasPlace n s) (length-map ss plain) (has_place m (plains ss) s (sym o)))
-  judged_served (Err Place) o t = absurd t
-  judged_served (Err Full) o t = absurd t
-  judged_served (Err Curve) o t = absurd t
-  judged_served (Err Leg) o t = absurd t
-  judged_served (Err (NoTimetable f)) o t = (blocked f (sym o) t, tt)
+  served_so : (r : Answer) → None ≡ objection m (plains ss) s → Served (visits K m (spliced s (plains ss))) r → Told r
+  served_so (Ok x) o t = (accepted (sym o) t, subst (λ (n : ℕ). HasPlace n s) (length-map ss plain) (has_place m (plains ss) s (sym o)))
+  served_so (Err Place) o t = absurd t
+  served_so (Err Full) o t = absurd t
+  served_so (Err Curve) o t = absurd t
+  served_so (Err Leg) o t = absurd t
+  served_so (Err (NoTimetable f)) o t = (blocked f (sym o) t, tt)
+
+  -- where the code has drafted the stops qs over a source of meaning n
+  pub judged_served : (r : Answer) (n : Meaning E) (qs : List Plain) → None ≡ objection m (plains ss) s → n ≡ m → qs ≡ spliced s (plains ss) → Served (visits K n qs) r → Told r
+  judged_served r n qs o e f t = served_so r o (subst (λ (ps : List Plain). Served (visits K m ps) r) f (subst (λ (x : Meaning E). Served (visits K x qs) r) e t))

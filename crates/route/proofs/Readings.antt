@@ -1,5 +1,5 @@
 -- Minutes and costs read from marks.
-use Rattle.std.proofs.Common.{◌≡◌, ℕ, ◌≤◌, List, [], ◌∷◌, length, take, sym, refl, ap, ◌∙◌, subst, arith}
+use Rattle.std.proofs.Common.{◌≡◌, ℕ, ◌≤◌, List, [], ◌∷◌, length, get_or, take, sym, refl, ap, ◌∙◌, subst, arith}
 use Rattle.std.proofs.lemmas.List.{length-map}
 use Rattle.cost.specs.Algebra.{Algebra}
 use Rattle.source.specs.Meaning.{Meaning, Lawful}
@@ -35,10 +35,14 @@ marked_best K m ss law few right =
     marks_best K (line K m ss) (marks ss) (lawful_sound K m law (plains ss) (omega arith)).bends right
 
 module _ {E : Type 0} (K : Algebra E) (m : Meaning E) (ss : List Stop) (old : List ℕ) (loaded : take (length ss) old ≡ marks ss) where
-  pub loaded_minutes : minutes (line K m ss) old ≡ timed K m ss
+  loaded_minutes : minutes (line K m ss) old ≡ timed K m ss
   loaded_minutes =
       let n : length (line K m ss) ≡ length ss = length-map (plains ss) (seen K m) ∙ length-map ss plain in
       sym (minutes_take (line K m ss) old) ∙ ap (λ (k : ℕ). minutes (line K m ss) (take k old)) n ∙ ap (minutes (line K m ss)) loaded
+
+  -- one minute, read from the line vs of a draft
+  pub loaded_minute : (vs : List (Visit E)) (i t : ℕ) → vs ≡ line K m ss → t ≡ get_or (minutes vs old) i 0 → t ≡ get_or (timed K m ss) i 0
+  loaded_minute vs i t e r = r ∙ ap (λ (ws : List (Visit E)). get_or (minutes ws old) i 0) e ∙ ap (λ (ts : List ℕ). get_or ts i 0) loaded_minutes
 
   pub loaded_least : Lawful K m → length ss ≤ 64 → (x : E) → (Sound K (line K m ss) → Timetable (line K m ss) (minutes (line K m ss) old) → x ≡ bill K (line K m ss) (minutes (line K m ss) old)) → Marked K m ss → Least K (line K m ss) x
   loaded_least law few x billed right =

@@ -99,7 +99,3 @@ module _ {E : Type 0} (K : Algebra E) (m : Meaning E) where
 
   pub kept_on : (ss ts : List Stop) (s : Splice) → Lawful K m → length ts ≤ 64 → Kept K m ss → Spliced K m ss s (Ok tt) ts → Kept K m ts
   kept_on ss ts s law few k x = record { few = few; lawful = law; marked = x.marked k.marked }
-
-  -- a refused splice
-  pub stayed : (ss : List Stop) (s : Splice) (r : Answer) → Judged K m (plains ss) s r (plains ss) → Spliced K m ss s r ss
-  stayed ss s r j = record { judged = j; marked = λ right. right; front = refl; stays = λ e. refl }

@@ -8,7 +8,7 @@ use Rattle.cost.specs.Algebra.{Algebra}
 use Rattle.source.specs.Meaning.{Meaning}
 use Rattle.route.specs.Plain.{Plain, place, spliced, visits}
 use Rattle.route.specs.Judged.{HasPlace}
-use Rattle.route.specs.Table.{plain, plains}
+use Rattle.route.specs.Table.{plain, plains, line}
 use Rattle.route.specs.Drafts.{put_in, behind, drafted}
 
 pub parts : (ss front back : List Stop) (i j : ℕ) (put : Option Stop) (leg : Option ℕ) → front ≡ take i ss → back ≡ drop j ss → drafted front put back leg ≡ take i (plains ss) ++ (put_in put ++ behind leg (drop j (plains ss)))
@@ -28,3 +28,7 @@ remove_parts ss front rest s i p l fits is at f r =
 -- a draft over a source, as the timing sees it
 pub same_line : {X E : Type 0} (K : Algebra E) (M : X → Meaning E) (a b : X) (ps qs : List Plain) → a ≡ b → ps ≡ qs → visits K (M a) ps ≡ visits K (M b) qs
 same_line {X} K M a b ps qs e f = ap (λ (x : X). visits K (M x) ps) e ∙ ap (visits K (M b)) f
+
+-- a draft of the whole table ts, which holds the stops us
+pub table_line : {X E : Type 0} (K : Algebra E) (M : X → Meaning E) (a b : X) (ps : List Plain) (ts us : List Stop) → a ≡ b → ps ≡ plains ts → ts ≡ us → visits K (M a) ps ≡ line K (M b) us
+table_line K M a b ps ts us e f g = same_line K M a b ps (plains us) e (f ∙ ap plains g)

@@ -35,6 +35,7 @@ impl<'a, S: Source> Model for Draft<'a, S> {
 }
 
 // Stop j, counted from 0, of the stops behind, the first of which has another leg if one is handed over.
+#[tactic(auto, using(crate::proofs::Views::behind_rest))]
 fn behind_at(stops: &[Stop], leg: Option<u16>, j: usize) -> Option<Stop>
     ensures { option_map plain result ≡ slice_get (behind leg (plains stops.now)) j }
 {

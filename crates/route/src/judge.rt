@@ -1,5 +1,6 @@
 ghost use Rattle.std.specs.Prelude.{◌≡◌, length, OnOk};
 ghost use Rattle.route.specs.Refusals.{refused_by};
+ghost use Rattle.route.specs.Plain.{spliced};
 ghost use Rattle.route.specs.Table.{plains};
 ghost use Rattle.route.specs.Judged.{outside, closed, long, objection, HasPlace, Judged, Served};
 ghost use Rattle.route.specs.Calls.{left};
@@ -70,12 +71,21 @@ impl<S: Source> Route<S> {
         }
     }
 
+    // The route as the splice would have it.
+    fn draft_of(&self, splice: Splice) -> Draft<'_, S>
+        requires { HasPlace (length self.now.stops) splice }
+        ensures source { result.source ≡ self.now.source }
+        ensures stops { result.stops ≡ spliced splice (plains self.now.stops) }
+    {
+        Draft::spliced(&self.source, self.stops.as_slice(), splice)
+    }
+
     // Whether the splice is accepted; the route stays.
     pub(crate) fn judge(&self, splice: Splice) -> Result<(), Refusal>
         ensures judged { Judged S.Kind.Cost.algebra (S.Source.meaning self.now.source) (plains self.now.stops) splice result (left result splice (plains self.now.stops)) }
         ensures place { OnOk result (HasPlace (length self.now.stops) splice) }
     {
         self.examine(splice)?;
-        serve(&Draft::spliced(&self.source, self.stops.as_slice(), splice))
+        serve(&self.draft_of(splice))
     }
 }

@@ -1,5 +1,4 @@
-use Rattle.std.proofs.Common.{◌<◌, ◌≤◌, List, length, take, is_ok, vec_items, ap, ◌∙◌, subst, arith}
-use Rattle.std.proofs.ResultArms.{chosen}
+use Rattle.std.proofs.Common.{◌<◌, ◌≤◌, List, length, take, vec_items, ◌∙◌, subst, arith}
 use Rattle.std.proofs.lemmas.List.{take_more, take_all}
 use Rattle.route.specs.declared.stop.Splice.{Splice}
 use Rattle.route.specs.Table.{plains}
@@ -13,10 +12,9 @@ loop-splice-preserved g c =
     let h = c.args.splices.now in
     let inv = c.loop-splice.invariant in
     let route = c.loop-splice.route in
-    let pushed = chosen _ _ _ _ c.push.ensures.items (ap is_ok c.in_ok-push.was) in
     let lt : i < length h = omega arith in (
       c.apply.ensures.source ∙ inv.0,
-      run_more g.S.Kind.Cost.algebra g.S.Source.meaning c.args.route.now.source route.source c.args.route.now.stops route.stops c.apply.new.self.stops (take i h) _ (vec_items c.loop-splice.answers) (vec_items c.push.new.self) _ c.apply.result inv.0 inv.1 c.apply.ensures.spliced (take_more h i _ lt) pushed,
+      run_more g.S.Kind.Cost.algebra g.S.Source.meaning c.args.route.now.source route.source c.args.route.now.stops route.stops c.apply.new.self.stops (take i h) _ (vec_items c.loop-splice.answers) (vec_items c.push.new.self) _ c.apply.result inv.0 inv.1 c.apply.ensures.spliced (take_more h i _ lt) c.in_ok-push.ensures.items,
     )
 
 pub returns : goal.returns

@@ -23,7 +23,7 @@ returns g c =
     c.part-2.ensures.stops ∙ ap (λ (l : List Stop). releg at.leg (plains l)) c.split_at-2.ensures.back
     ∙ ap (λ (l : List Stop). releg at.leg (plains (drop (at.j - 1) l))) (c.as_slice-2.ensures.value ∙ ap (λ v. v.stops) c.b.view_is)
     ∙ ap (releg at.leg) (sym (drop-map plain (at.j - 1) b.stops)) in
-    let same = same_joined K M N _ _ _ _ _ _ _ _ (c.part.ensures.source ∙ ap (λ v. v.source) c.a.view_is) first (c.part-2.ensures.source ∙ ap (λ v. v.source) c.b.view_is) second in
+    let same = same_joined K M N c.part.result.source a.source c.part-2.result.source b.source c.part.result.stops (take at.i (plains a.stops)) c.part-2.result.stops (releg at.leg (drop (at.j - 1) (plains b.stops))) (c.part.ensures.source ∙ ap (λ v. v.source) c.a.view_is) first (c.part-2.ensures.source ∙ ap (λ v. v.source) c.b.view_is) second in
     let ka = subst (λ (v : Over g.row.A.Denot Stop). Kept K (M v.source) v.stops) c.a.view_is c.a.invariant in
     let kb = subst (λ (v : Over g.row.B.Denot Stop). Kept K (N v.source) v.stops) c.b.view_is c.b.invariant in
     record {

@@ -6,7 +6,7 @@ use Rattle.timing.specs.Sound.{Sound}
 use Rattle.route.specs.declared.stop.Stop.{Stop}
 use Rattle.route.specs.Over.{Over}
 use Rattle.route.specs.Kept.{Kept}
-use Rattle.route.specs.Table.{marks}
+use Rattle.route.specs.Table.{plains, marks}
 use Rattle.route.proofs.Splices.{same_line}
 use Rattle.route.proofs.Readings.{marked_best, loaded_least}
 use Rattle.route.proofs.table.Route.timed_cost.Goals as goal
@@ -20,7 +20,7 @@ returns g c =
     let x = g.S.Kind.Cost.exact c.least.result in
     let kept = subst (λ (v : Over g.row.S.Denot Stop). Kept K (M v.source) v.stops) c.self.view_is c.self.invariant in
     let loaded = subst (λ (v : Over g.row.S.Denot Stop). take (length v.stops) old ≡ marks v.stops) c.self.view_is c.marks.ensures.marks in
-    let lines = same_line K M _ _ _ _ c.draft.ensures.source c.draft.ensures.stops in
+    let lines = same_line K M c.draft.result.source r.source c.draft.result.stops (plains r.stops) c.draft.ensures.source c.draft.ensures.stops in
     let billed = subst (λ (vs : List (Visit g.row.S-Exact.Denot)). Sound K vs → Timetable vs (minutes vs old) → x ≡ bill K vs (minutes vs old)) lines c.least.ensures in
     record {
       lawful = kept.lawful;
