@@ -1,4 +1,5 @@
-ghost use Rattle.std.specs.Prelude.{◌≡◌, ◌≤◌, take};
+ghost use Rattle.std.specs.Prelude.{◌≡◌, ◌<◌, ◌≤◌, length, slice_index_or};
+ghost use Rattle.route.specs.declared.stop.Facts.{Facts as FactsOf};
 ghost use Rattle.report.specs.Routes.{route_facts, Reported};
 
 use crate::refusal::ReportRefusal;
@@ -8,27 +9,26 @@ use route::stop::Facts;
 use route::table::Route;
 use source::source::Source;
 
-// The facts of no stop.
-const BLANK: Facts = Facts {
-    curve: 0,
-    leg: 0,
-    mark: 0,
-    minute: 0,
-};
-
-// Reads the facts of all stops into the front of a table, and answers how many stops there are.
-fn read_facts<S: Source>(route: &Route<S>, table: &mut [Facts; 64]) -> usize
-    ensures few { result ≤ 64 }
-    ensures read { take result table.new ≡ route_facts S.Kind.Cost.algebra (S.Source.meaning route.now.source) route.now.stops }
+// Reads the facts of stop i, counted from 0, into an entry.
+fn read_entry<S: Source>(route: &Route<S>, i: usize, entry: &mut Facts)
+    requires there { i < length route.now.stops }
+    requires few { i < 64 }
+    ensures { (d : FactsOf) → entry.new ≡ slice_index_or (route_facts S.Kind.Cost.algebra (S.Source.meaning route.now.source) route.now.stops) i d }
 {
-    let count = route.stop_count();
-    // By index: after `iter_mut().enumerate()` no proof knows what the slots hold, and `array::from_fn` wants this contract again at its closure.
-    for i in 0..count {
-        if let Ok(stop) = route.facts(i + 1) {
-            table[i] = stop;
-        }
+    if let Ok(facts) = route.facts(i + 1) {
+        *entry = facts;
     }
-    count
+}
+
+// Reads the facts of all stops into a table with an entry for each.
+fn read_facts<S: Source>(route: &Route<S>, entries: &mut [Facts])
+    requires all { length entries.old ≡ length route.now.stops }
+    requires few { length entries.old ≤ 64 }
+    ensures { entries.new ≡ route_facts S.Kind.Cost.algebra (S.Source.meaning route.now.source) route.now.stops }
+{
+    for (i, entry) in entries.iter_mut().enumerate() {
+        read_entry(route, i, entry);
+    }
 }
 
 // Writes the report of a route whose stops have these facts.
@@ -39,6 +39,7 @@ fn write_route<S: Source>(
 ) -> Result<usize, ReportRefusal>
 where
     S::Kind: Written<S::Exact>,
+    requires { length facts.now ≤ 64 }
     ensures { facts.now ≡ route_facts S.Kind.Cost.algebra (S.Source.meaning route.now.source) route.now.stops → Reported S.Kind.Cost.algebra S.Kind.Written.text S.Kind.Written.longest (S.Source.meaning route.now.source) route.now.stops buf.old buf.new result }
 {
     write_report(facts, route.least_cost(), buf)
@@ -51,8 +52,9 @@ where
     S::Kind: Written<S::Exact>,
     ensures { Reported S.Kind.Cost.algebra S.Kind.Written.text S.Kind.Written.longest (S.Source.meaning route.now.source) route.now.stops buf.old buf.new result }
 {
-    // An array: a report wants no memory of the heap.
-    let mut table = [BLANK; 64];
-    let count = read_facts(route, &mut table);
-    write_route(route, &table[0..count], buf)
+    // Kept: an array, since a report wants no memory of the heap.
+    let mut table = [Facts::default(); 64];
+    let entries = &mut table[..route.stop_count()];
+    read_facts(route, entries);
+    write_route(route, entries, buf)
 }

@@ -1,4 +1,4 @@
-use Rattle.std.proofs.Common.{◌≤◌, List, length, vec_items, ap, ◌∙◌, subst, arith}
+use Rattle.std.proofs.Common.{◌≤◌, List, length, ap, ◌∙◌, subst, arith}
 use Rattle.cost.specs.Texts.{laid}
 use Rattle.route.specs.declared.stop.Facts.{Facts}
 use Rattle.report.specs.Refusals.{answer}
@@ -16,7 +16,7 @@ returns g c = λ e.
     let buf = c.args.buf.now in
     let cost = g.S.Kind.Cost.exact c.least_cost.result in
     let text = g.S.Kind.Written.text cost in
-    let few : length ss ≤ 64 = omega arith in
+    let few : length ss ≤ 64 = omega (arith, ap length e, all_length K m ss) in
     let law = c.least_cost.ensures.lawful in
     record {
       cost = cost;
@@ -24,9 +24,9 @@ returns g c = λ e.
       best = c.least_cost.ensures.best;
       answered = c.write_report.ensures.answer ∙ ap (λ (fs : List Facts). answer (length (report_text fs text)) (length buf)) e;
       bytes = c.write_report.ensures.bytes ∙ ap (λ (fs : List Facts). laid buf 0 (report_text fs text)) e;
-      bound = λ marked.
+      bound =
           subst (λ (fs : List Facts). Bounded fs (K.size cost) text g.S.Kind.Written.longest) e c.write_report.ensures.bound
           (omega (arith, all_length K m ss))
-          (route_ordinary K m law ss few marked)
-          (least_small K m law ss few cost (c.least_cost.ensures.least marked));
+          (route_ordinary K m law ss few c.least_cost.ensures.marked)
+          (least_small K m law ss few cost c.least_cost.ensures.least);
     }
