@@ -46,28 +46,9 @@ pub fn card_rows() -> [DueRow; 4]
     ]
 }
 
-// The row by minutes late: nothing before the due minute, and 1 for each minute after it.
-fn minutes_late(row: DueRow) -> DueRow
-    ensures { result ≡ late_row row }
-{
-    DueRow {
-        first: row.first,
-        last: row.last,
-        due: row.due,
-        early: 0,
-        late: 1,
-    }
-}
-
-// The same rows by minutes late.
+// The same rows by minutes late: nothing before the due minute, and 1 for each minute after it.
 pub fn late_rows() -> [DueRow; 4]
     ensures { result ≡ map late_row rows }
 {
-    let rows = card_rows();
-    [
-        minutes_late(rows[0]),
-        minutes_late(rows[1]),
-        minutes_late(rows[2]),
-        minutes_late(rows[3]),
-    ]
+    card_rows().map(|row| row.lateness())
 }

@@ -1,34 +1,39 @@
--- The front of a table into which a strip's rows were read: the rows that the strip holds, and no others.
-use Rattle.std.proofs.Common.{◌≡◌, ℕ, List, length, take, drop, Ok, Result, sym, refl, ap, ◌∙◌, subst, arith}
-use Rattle.std.proofs.lemmas.List.{take_at}
+-- A strip that was read, against what reading its rows into a table answers. Assumes nothing.
+use Rattle.std.proofs.Common.{◌≡◌, ℕ, List, Ok, Err, Result, sym, refl, ap, subst}
 use Rattle.source.specs.declared.due.DueRow.{DueRow}
 use Rattle.reader.specs.declared.faults.Fault.{Fault}
 use Rattle.reader.specs.declared.rows.RowsRead.{RowsRead}
-use Rattle.reader.specs.Reading.{over_front}
-use Rattle.reader.specs.Exactly.{Holds, ReadsExactly}
+use Rattle.reader.specs.Reading.{rows_answer, rows_of, strip_answer}
+use Rattle.reader.specs.Exactly.{Holds}
+use Rattle.reader.proofs.Exact.{answer_holds, holds_one}
 
+-- the rows that a strip holds, and no others
 pub record Front (strip : List ℕ) (got : RowsRead) (rows : List DueRow) : Type 0 where
   pub holds : Holds strip rows got.calls
   pub alone : (held : List DueRow) → Holds strip held got.calls → held ≡ rows
 
--- a table whose front was overwritten by rows
-front_is : (rows before after : List DueRow) (n : ℕ) → after ≡ over_front rows before → length rows ≡ n → take n after ≡ rows
-front_is rows before after n over long = ap (take n) over ∙ take_at rows (drop (length rows) before) n long
+abbrev strip_by : List ℕ → Result RowsRead Fault → Result (List DueRow × ℕ) Fault
+strip_by bytes (Ok got) = Ok (rows_of bytes 64, got.calls)
+strip_by bytes (Err f) = Err f
 
--- the count in an answer
-same_count : (a b : RowsRead) → ◌≡◌ {A = Result RowsRead Fault} (Ok a) (Ok b) → a.rows ≡ b.rows
-same_count a b e = let same : a ≡ b = cc in ap (λ (g : RowsRead). g.rows) same
+read_by : (bytes : List ℕ) (rows : List DueRow) (calls : ℕ) (r : Result RowsRead Fault) → strip_by bytes r ≡ Ok (rows, calls) → (got : RowsRead) × (Ok got ≡ r) × (got.calls ≡ calls)
+read_by bytes rows calls (Ok got) e =
+    let same : ◌≡◌ {A = List DueRow × ℕ} (rows_of bytes 64, got.calls) (rows, calls) = cc in
+    (got, refl, ap (λ (x : List DueRow × ℕ). x.1) same)
+read_by bytes rows calls (Err f) e = cc
 
-pub front : (strip : List ℕ) (before after : List DueRow) (got : RowsRead) (n : ℕ) → n ≡ got.rows → length before ≡ 64
-    → ReadsExactly strip before after (Ok got) → Front strip got (take n after)
-front strip before after got n size room exact =
-    let (rows, holds, long, fits, over) = exact.accepted got refl in
-    let same : take n after ≡ rows = front_is rows before after n over (long ∙ sym size) in
-    subst (λ (l : List DueRow). Front strip got l) (sym same)
-    (record {
-      holds = holds;
-      alone = λ held h.
-          let again = exact.accepts held got.calls h (omega (arith, h.few)) in
-          let count : got.rows ≡ length held = same_count got (record { rows = length held; calls = got.calls }) again.0 in
-          sym (front_is held before after n again.1 (sym count ∙ sym size)) ∙ same;
-    })
+pub front : (bytes : List ℕ) (rows : List DueRow) (calls : ℕ) → strip_answer bytes ≡ Ok (rows, calls)
+    → (got : RowsRead) × (Ok got ≡ rows_answer bytes 64) × (got.calls ≡ calls) × Front bytes got rows
+unfolding strip_answer
+front bytes rows calls e =
+    let (got, read, place) = read_by bytes rows calls (rows_answer bytes 64) e in
+    let holds = subst (λ (n : ℕ). Holds bytes rows n) (sym place) (answer_holds bytes rows calls e) in
+    (got, read, place, record { holds = holds; alone = λ held h. (holds_one bytes rows held got.calls got.calls holds h).0 })
+
+fault_by : (bytes : List ℕ) (f : Fault) (r : Result RowsRead Fault) → strip_by bytes r ≡ Err f → Err f ≡ r
+fault_by bytes f (Ok got) e = cc
+fault_by bytes f (Err g) e = let same : g ≡ f = cc in ap (λ (x : Fault). Err x) (sym same)
+
+pub fault_read : (bytes : List ℕ) (f : Fault) → strip_answer bytes ≡ Err f → Err f ≡ rows_answer bytes 64
+unfolding strip_answer
+fault_read bytes f e = fault_by bytes f (rows_answer bytes 64) e

@@ -6,14 +6,6 @@ use crate::rows::{RowsRead, read_rows};
 use source::due::DueRow;
 use std::alloc::{AllocError, Global};
 
-const BLANK: DueRow = DueRow {
-    first: 0,
-    last: 0,
-    due: 0,
-    early: 0,
-    late: 0,
-};
-
 // A strip whose rows are lawful: its bytes, its rows, and the byte, counted from 0, where its calls begin.
 #[derive(Drop)]
 pub struct Strip<'a> {
@@ -43,7 +35,7 @@ impl<'a> Strip<'a> {
         ensures fault { IfOk result (λ r. IfErr r (λ fault. strip_answer bytes.now ≡ Err fault)) }
         ensures none { IfOk result (λ r. IfErr r (λ _. HoldsNone bytes.now)) }
     {
-        let mut table = [BLANK; 64];
+        let mut table = [DueRow::default(); 64];
         match read_rows(bytes, &mut table) {
             Ok(RowsRead { rows, calls }) => {
                 let rows = Vec::from_slice(heap, &table[..rows])?;

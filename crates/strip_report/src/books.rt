@@ -8,11 +8,7 @@ use std::alloc::{AllocError, Global};
 fn late_rows(heap: Global, rows: &[DueRow]) -> Result<Vec<DueRow>, AllocError>
     ensures { IfOk result (λ v. v.items ≡ map lateness rows.now) }
 {
-    let mut late = Vec::new(heap);
-    for row in rows {
-        late.push(row.lateness())?;
-    }
-    Ok(late)
+    rows.iter().map(|row| row.lateness()).collect(heap)
 }
 
 // The rows by money.

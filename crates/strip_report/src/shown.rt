@@ -1,5 +1,4 @@
 ghost use Rattle.std.specs.Prelude.{◌≤◌, IfOk};
-ghost use Rattle.route.specs.Table.{Marked};
 ghost use Rattle.strip_report.specs.Shown.{ReportOf, Shows};
 
 use cost::written::Written;
@@ -25,15 +24,15 @@ pub(crate) struct Shown<S: Source> {
 fn report_bytes<S: Source>(heap: Global, route: &Route<S>) -> Result<Vec<u8>, AllocError>
 where
     S::Kind: Written<S::Exact>,
-    requires short { S.Kind.Written.longest ≤ 100 }
-    requires marked { Marked S.Kind.Cost.algebra (S.Source.meaning route.now.source) route.now.stops }
+    requires { S.Kind.Written.longest ≤ 100 }
     ensures { IfOk result (λ v. ReportOf S.Kind.Cost.algebra S.Kind.Written.text (S.Source.meaning route.now.source) route.now.stops v.items) }
 {
-    let mut buffer = [0; LONGEST];
-    match report(route, &mut buffer) {
-        Ok(length) => Vec::from_slice(heap, &buffer[0..length]),
+    let mut text = vec![in heap; 0; LONGEST]?;
+    match report(route, text.as_mut_slice()) {
+        Ok(length) => text.truncate(length),
         Err(_) => unreachable(),
     }
+    Ok(text)
 }
 
 // Opens an empty route over a source, makes the calls of a strip from a byte on, and reports what they leave.
