@@ -1,5 +1,5 @@
 -- What is printed of a join, and that nothing else can be.
-use Rattle.std.proofs.Common.{◌≡◌, ℕ, ◌+◌, ◌-◌, min, List, [], ◌∷◌, map, length, take, drop, Ok, decimal, Result, sym, refl, ap, ◌∙◌, subst, arith, length-append}
+use Rattle.std.proofs.Common.{◌≡◌, ℕ, ◌+◌, ◌-◌, min, List, [], ◌∷◌, map, length, take, drop, Ok, Err, decimal, Result, sym, refl, ap, ◌∙◌, subst, arith, length-append}
 use Rattle.std.proofs.lemmas.List.{length-map, length-take, length-drop}
 use Rattle.cost.specs.Amounts.{whole}
 use Rattle.source.specs.declared.due.DueRow.{DueRow}
@@ -11,9 +11,10 @@ use Rattle.route.specs.Joins.{joined, JoinJudged}
 use Rattle.route.specs.Guarantee.{told}
 use Rattle.route.proofs.JoinsOne.{joined_one}
 use Rattle.reader.specs.declared.faults.Fault.{Fault}
+use Rattle.reader.specs.FaultLine.{fault_line}
 use Rattle.reader.specs.declared.rows.RowsRead.{RowsRead}
-use Rattle.reader.specs.Reading.{rows_answer}
-use Rattle.reader.proofs.Fronts.{Front}
+use Rattle.reader.specs.Reading.{rows_answer, strip_answer}
+use Rattle.reader.proofs.Fronts.{Front, front, fault_read}
 use Rattle.strip_report.specs.Shown.{StripReport}
 use Rattle.strip_report.specs.Joined.{stops_of, join_lines, join_text, JoinReports, JoinPrintedBy, JoinPrintsOnly}
 use Rattle.strip_report.proofs.Only.{report_one}
@@ -94,9 +95,9 @@ module _ (strip : List ℕ) (i leg : ℕ) (other : List ℕ) (j : ℕ) (text : L
     only = λ t p. only t (subst (λ (v : Result RowsRead Fault). By v s t) (sym e) (subst (λ (v : Result RowsRead Fault). By (rows_answer strip 64) v t) (sym f) p));
   }
 
-  pub both_read : (got too : RowsRead) (rows more : List DueRow) → Ok got ≡ rows_answer strip 64 → Ok too ≡ rows_answer other 64 → Front strip got rows → Front other too more
+  both_by : (got too : RowsRead) (rows more : List DueRow) → Ok got ≡ rows_answer strip 64 → Ok too ≡ rows_answer other 64 → Front strip got rows → Front other too more
       → JoinReports strip rows got.calls i leg other more too.calls j text → JoinPrintsOnly strip i leg other j text
-  both_read got too rows more e f front back made =
+  both_by got too rows more e f front back made =
       by_answers (Ok got) (Ok too) e f (rows, more, front.holds, back.holds, made)
       (λ t p.
       let (held, kept, holds, keeps, theirs) = p in
@@ -104,3 +105,25 @@ module _ (strip : List ℕ) (i leg : ℕ) (other : List ℕ) (j : ℕ) (text : L
       (subst (λ (l : List DueRow). JoinReports strip rows got.calls i leg other l too.calls j t) (back.alone kept keeps)
       (subst (λ (l : List DueRow). JoinReports strip l got.calls i leg other kept too.calls j t) (front.alone held holds) theirs))
       made)
+
+  -- two strips that were read
+  pub both_read : (rows more : List DueRow) (calls at : ℕ) → strip_answer strip ≡ Ok (rows, calls) → strip_answer other ≡ Ok (more, at)
+      → JoinReports strip rows calls i leg other more at j text → JoinPrintsOnly strip i leg other j text
+  both_read rows more calls at held keeps made =
+      let (got, e, place, front_rows) = front strip rows calls held in
+      let (too, f, there, back_rows) = front other more at keeps in
+      both_by got too rows more e f front_rows back_rows
+      (subst (λ (n : ℕ). JoinReports strip rows got.calls i leg other more n j text) (sym there) (subst (λ (n : ℕ). JoinReports strip rows n i leg other more at j text) (sym place) made))
+
+  -- the fault in the rows of the first, whatever the second's are
+  fault_by : (f : Fault) (s : Result RowsRead Fault) (t : List ℕ) → t ≡ fault_line f → By (Err f) s t
+  fault_by f s t is = is
+
+  pub first_fault : (f : Fault) → strip_answer strip ≡ Err f → text ≡ fault_line f → JoinPrintsOnly strip i leg other j text
+  first_fault f read is = by_answers (Err f) (rows_answer other 64) (fault_read strip f read) refl (fault_by f (rows_answer other 64) text is) (λ t p. p ∙ sym is)
+
+  -- the fault in the rows of the second, where those of the first are lawful
+  pub second_fault : (rows : List DueRow) (calls : ℕ) (f : Fault) → strip_answer strip ≡ Ok (rows, calls) → strip_answer other ≡ Err f → text ≡ fault_line f → JoinPrintsOnly strip i leg other j text
+  second_fault rows calls f held read is =
+      let (got, e, place, front_rows) = front strip rows calls held in
+      by_answers (Ok got) (Err f) e (fault_read other f read) is (λ t p. p ∙ sym is)

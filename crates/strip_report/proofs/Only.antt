@@ -1,5 +1,5 @@
 -- What is printed of a strip: both routes answer its calls alike, and nothing else can be printed.
-use Rattle.std.proofs.Common.{◌≡◌, ℕ, List, [], map, length, Ok, decimal, Result, sym, ap, ◌∙◌, subst}
+use Rattle.std.proofs.Common.{◌≡◌, ℕ, List, [], map, length, Ok, Err, decimal, Result, sym, ap, ◌∙◌, subst}
 use Rattle.cost.specs.Algebra.{Algebra}
 use Rattle.cost.specs.Amounts.{whole}
 use Rattle.cost.specs.Pairs.{paired}
@@ -12,14 +12,15 @@ use Rattle.route.proofs.Uniqueness.{read_same}
 use Rattle.report.specs.Reports.{report_text}
 use Rattle.reader.specs.declared.faults.Fault.{Fault}
 use Rattle.reader.specs.declared.rows.RowsRead.{RowsRead}
-use Rattle.reader.specs.Reading.{rows_answer}
+use Rattle.reader.specs.FaultLine.{fault_line}
+use Rattle.reader.specs.Reading.{rows_answer, strip_answer}
 use Rattle.reader.specs.Running.{begin}
 use Rattle.reader.specs.CallLaws.{answers_in}
-use Rattle.reader.proofs.Fronts.{Front}
+use Rattle.reader.proofs.Fronts.{Front, front, fault_read}
 use Rattle.reader.proofs.SameCalls.{calls_same, calls_one}
 use Rattle.strip_report.specs.Shown.{StripReport}
 use Rattle.strip_report.specs.Printed.{promised, both, strip_text, Reports, PrintedBy, PrintsOnly, AllLawful}
-use Rattle.strip_report.proofs.Late.{late_windows}
+use Rattle.strip_report.proofs.Late.{all_lawful, late_windows}
 
 module _ {E : Type 0} (K : Algebra E) (text : E → List ℕ) (m : Meaning E) (strip : List ℕ) (from : ℕ) where
   -- a strip is answered in one way, and has one report
@@ -55,11 +56,31 @@ module _ (strip : List ℕ) (rows : List DueRow) (from : ℕ) where
       ∙ ap (λ (r : Result ℕ Fault). strip_text y.money y.promise r) one.0
       ∙ sym y.written
 
-pub printed_reports : (strip : List ℕ) (got : RowsRead) (rows : List DueRow) (text : List ℕ) → Ok got ≡ rows_answer strip 64
+printed_by : (strip : List ℕ) (got : RowsRead) (rows : List DueRow) (text : List ℕ) → Ok got ≡ rows_answer strip 64
     → Front strip got rows → Reports strip rows got.calls text → PrintsOnly strip text
-printed_reports strip got rows text answer at_front made = record {
+printed_by strip got rows text answer at_front made = record {
   printed = subst (λ (r : Result RowsRead Fault). PrintedBy strip r text) answer (rows, at_front.holds, made);
   only = λ other p.
       let (held, holds, theirs) = subst (λ (r : Result RowsRead Fault). PrintedBy strip r other) (sym answer) p in
       reports_one strip rows got.calls other text (subst (λ (l : List DueRow). Reports strip l got.calls other) (at_front.alone held holds) theirs) made;
 }
+
+-- the reports of a strip that was read
+pub printed_reports : (strip : List ℕ) (rows : List DueRow) (calls : ℕ) (text : List ℕ) → strip_answer strip ≡ Ok (rows, calls) → Reports strip rows calls text → PrintsOnly strip text
+printed_reports strip rows calls text held made =
+    let (got, answer, place, at_front) = front strip rows calls held in
+    printed_by strip got rows text answer at_front (subst (λ (n : ℕ). Reports strip rows n text) (sym place) made)
+
+-- the fault in a strip's rows
+pub printed_fault : (strip : List ℕ) (f : Fault) (text : List ℕ) → strip_answer strip ≡ Err f → text ≡ fault_line f → PrintsOnly strip text
+printed_fault strip f text read is =
+    let answer = fault_read strip f read in
+    record {
+      printed = subst (λ (r : Result RowsRead Fault). PrintedBy strip r text) answer is;
+      only = λ other p. subst (λ (r : Result RowsRead Fault). PrintedBy strip r other) (sym answer) p ∙ sym is;
+    }
+
+pub strip_lawful : (strip : List ℕ) (rows : List DueRow) (calls : ℕ) → strip_answer strip ≡ Ok (rows, calls) → AllLawful rows
+strip_lawful strip rows calls held =
+    let (got, answer, place, at_front) = front strip rows calls held in
+    all_lawful rows at_front.holds.records at_front.holds.spelled

@@ -1,25 +1,16 @@
 ghost use Rattle.std.specs.Prelude.{◌≡◌, ◌+◌, ◌-◌, ◌≤◌, min, ◌++◌, IfOk, string_bytes};
-ghost use Rattle.strip_report.specs.Joined.{joined_units, fault_in, joined_text, join_lines, JoinReports, JoinPrintsOnly};
+ghost use Rattle.strip_report.specs.Joined.{joined_units, fault_in, joined_text, join_lines, JoinPrintsOnly};
 
 use crate::books::money_book;
 use crate::shown::show;
-use crate::text::{BLANK, fault_text};
+use crate::text::fault_text;
 use cost::amount::Amount;
 use reader::faults::Fault;
 use reader::lines::{fault_line, refusal_line};
-use reader::rows::read_rows;
+use reader::strip::Strip;
 use route::join::join;
 use route::stop::Refusal;
-use source::due::DueRow;
 use std::alloc::{AllocError, Global};
-
-// A strip taken apart: its bytes, its rows, and the byte where its calls begin.
-#[derive(Clone, Copy)]
-struct Parts<'a> {
-    strip: &'a [u8],
-    rows: &'a [DueRow],
-    calls: usize,
-}
 
 // How many stops are joined: the first i of one route, and those of the other from place j on.
 fn joined_count(front: usize, i: usize, back: usize, j: usize) -> usize
@@ -88,29 +79,19 @@ fn half_text(
     put_together(heap, heading, report, fault.as_str())
 }
 
-// What is printed of two strips with these rows, and of the join of the routes that their calls leave.
+// What is printed of two strips whose rows are lawful, and of the join of the routes that their calls leave.
 fn join_reports(
     heap: Global,
-    first: Parts<'_>,
+    first: &Strip<'_>,
     i: usize,
     leg: u16,
-    second: Parts<'_>,
+    second: &Strip<'_>,
     j: usize,
 ) -> Result<Vec<u8>, AllocError>
-    ensures { IfOk result (λ v. JoinReports first.entry.strip.now first.entry.rows.now first.entry.calls i leg second.entry.strip.now second.entry.rows.now second.entry.calls j v.items) }
+    ensures { IfOk result (λ v. JoinPrintsOnly first.now.bytes.now i leg second.now.bytes.now j v.items) }
 {
-    let a = show(
-        heap,
-        money_book(heap, first.rows)?,
-        first.strip,
-        first.calls,
-    )?;
-    let b = show(
-        heap,
-        money_book(heap, second.rows)?,
-        second.strip,
-        second.calls,
-    )?;
+    let a = show(heap, money_book(heap, first.rows.as_slice())?, first)?;
+    let b = show(heap, money_book(heap, second.rows.as_slice())?, second)?;
     let count = joined_count(a.route.stop_count(), i, b.route.stop_count(), j);
     let joined = join(&a.route, i, leg, &b.route, j);
     let last = join_lines(heap, count, joined)?;
@@ -121,6 +102,7 @@ fn join_reports(
 
 // What is printed of two strips and the join of the first i stops that one leaves with those of the other from place
 // j on; a fault in the rows of either is printed alone.
+#[tactic(auto, using(crate::proofs::JoinOnly::first_fault, crate::proofs::JoinOnly::second_fault))]
 pub fn join_text(
     heap: Global,
     first: &[u8],
@@ -131,28 +113,12 @@ pub fn join_text(
 ) -> Result<Vec<u8>, AllocError>
     ensures { IfOk result (λ v. JoinPrintsOnly first.now i leg second.now j v.items) }
 {
-    let mut first_rows = [BLANK; 64];
-    let mut second_rows = [BLANK; 64];
-    let read = match read_rows(first, &mut first_rows) {
-        Ok(read) => read,
+    let first = match Strip::read(heap, first)? {
+        Ok(strip) => strip,
         Err(fault) => return fault_text(heap, fault),
     };
-    match read_rows(second, &mut second_rows) {
-        Ok(other) => {
-            let first_count = read.rows;
-            let second_count = other.rows;
-            let front = Parts {
-                strip: first,
-                rows: &first_rows[0..first_count],
-                calls: read.calls,
-            };
-            let back = Parts {
-                strip: second,
-                rows: &second_rows[0..second_count],
-                calls: other.calls,
-            };
-            join_reports(heap, front, i, leg, back, j)
-        }
+    match Strip::read(heap, second)? {
+        Ok(second) => join_reports(heap, &first, i, leg, &second, j),
         Err(fault) => fault_text(heap, fault),
     }
 }

@@ -4,6 +4,7 @@ ghost use Rattle.strip_report.specs.Shown.{ReportOf, Shows};
 use cost::written::Written;
 use reader::calls::run_calls;
 use reader::faults::Fault;
+use reader::strip::Strip;
 use report::routes::report;
 use route::table::Route;
 use source::source::Source;
@@ -35,20 +36,19 @@ where
     Ok(text)
 }
 
-// Opens an empty route over a source, makes the calls of a strip from a byte on, and reports what they leave.
+// Opens an empty route over a source, makes the calls of a strip, and reports what they leave.
 pub(crate) fn show<S: Source + Drop>(
     heap: Global,
     source: S,
-    strip: &[u8],
-    from: usize,
+    strip: &Strip<'_>,
 ) -> Result<Shown<S>, AllocError>
 where
     S::Kind: Written<S::Exact>,
     requires { S.Kind.Written.longest ≤ 100 }
-    ensures { IfOk result (λ s. Shows S.Kind.Cost.algebra S.Kind.Written.text S.Source.meaning source strip.now from s.ended s.report.items s.route.source s.route.stops) }
+    ensures { IfOk result (λ s. Shows S.Kind.Cost.algebra S.Kind.Written.text S.Source.meaning source strip.now.bytes.now strip.now.calls s.ended s.report.items s.route.source s.route.stops) }
 {
     let mut route = Route::open(heap, source)?;
-    let ended = run_calls(&mut route, strip, from);
+    let ended = run_calls(&mut route, strip.bytes, strip.calls);
     let report = report_bytes(heap, &route)?;
     Ok(Shown {
         route,

@@ -1,22 +1,13 @@
 ghost use Rattle.std.specs.Prelude.{◌≡◌, IfOk, string_bytes};
 ghost use Rattle.reader.specs.FaultLine.{fault_line};
-ghost use Rattle.strip_report.specs.Printed.{last_line, strip_text, Reports, PrintsOnly, AllLawful};
+ghost use Rattle.strip_report.specs.Printed.{last_line, strip_text, PrintsOnly};
 
 use crate::books::{money_book, promise_books};
 use crate::shown::show;
 use reader::faults::Fault;
 use reader::lines::fault_line;
-use reader::rows::read_rows;
-use source::due::DueRow;
+use reader::strip::Strip;
 use std::alloc::{AllocError, Global};
-
-pub(crate) const BLANK: DueRow = DueRow {
-    first: 0,
-    last: 0,
-    due: 0,
-    early: 0,
-    late: 0,
-};
 
 // What is printed of a strip whose rows are at fault.
 pub(crate) fn fault_text(heap: Global, fault: Fault) -> Result<Vec<u8>, AllocError>
@@ -54,19 +45,14 @@ fn strip_lines(
     Ok(text)
 }
 
-// What is printed of a strip with these rows, and calls from a byte on. Both routes answer the calls alike, so the
-// fault of one is the fault of both.
-fn both_reports(
-    heap: Global,
-    strip: &[u8],
-    rows: &[DueRow],
-    from: usize,
-) -> Result<Vec<u8>, AllocError>
-    requires { AllLawful rows.now }
-    ensures { IfOk result (λ v. Reports strip.now rows.now from v.items) }
+// What is printed of a strip whose rows are lawful. Both routes answer its calls alike, so the fault of one is the fault
+// of both.
+fn both_reports(heap: Global, strip: &Strip<'_>) -> Result<Vec<u8>, AllocError>
+    ensures { IfOk result (λ v. PrintsOnly strip.now.bytes.now v.items) }
 {
-    let money = show(heap, money_book(heap, rows)?, strip, from)?;
-    let promise = show(heap, promise_books(heap, rows)?, strip, from)?;
+    let rows = strip.rows.as_slice();
+    let money = show(heap, money_book(heap, rows)?, strip)?;
+    let promise = show(heap, promise_books(heap, rows)?, strip)?;
     strip_lines(
         heap,
         money.report.as_slice(),
@@ -76,15 +62,12 @@ fn both_reports(
 }
 
 // What is printed of a strip: its reports by money and by promise and how its calls ended, or the fault in its rows.
+#[tactic(auto, using(crate::proofs::Only::printed_fault))]
 pub fn strip_text(heap: Global, strip: &[u8]) -> Result<Vec<u8>, AllocError>
     ensures { IfOk result (λ v. PrintsOnly strip.now v.items) }
 {
-    let mut table = [BLANK; 64];
-    match read_rows(strip, &mut table) {
-        Ok(read) => {
-            let count = read.rows;
-            both_reports(heap, strip, &table[0..count], read.calls)
-        }
+    match Strip::read(heap, strip)? {
+        Ok(strip) => both_reports(heap, &strip),
         Err(fault) => fault_text(heap, fault),
     }
 }

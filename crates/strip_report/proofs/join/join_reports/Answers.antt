@@ -1,36 +1,26 @@
-use Rattle.std.proofs.Common.{◌≡◌, ℕ, ◌+◌, ◌-◌, min, List, ◌++◌, map, length, vec_items, codes, decimal, ap, ◌∙◌, subst, arith}
-use Rattle.std.proofs.lemmas.List.{length-map}
+use Rattle.std.proofs.Common.{◌≡◌, ℕ, ◌+◌, ◌-◌, min, List, ◌++◌, map, length, vec_items, codes, decimal, ap, ◌∙◌, subst}
 use Rattle.std.proofs.lemmas.Result.{IfOk-weaker}
 use Rattle.cost.specs.Amounts.{whole}
 use Rattle.source.specs.declared.due.DueBook.{DueBook}
 use Rattle.source.specs.declared.due.DueRow.{DueRow}
 use Rattle.source.specs.Due.{due_meaning}
-use Rattle.route.specs.Table.{plain, plains}
+use Rattle.route.specs.Table.{plains}
 use Rattle.route.specs.Joins.{JoinJudged}
 use Rattle.route.specs.Guarantee.{told}
 use Rattle.strip_report.specs.Shown.{StripReport}
-use Rattle.strip_report.specs.Joined.{joined_units, half_text, join_lines, JoinReports}
-use Rattle.strip_report.proofs.JoinOnly.{join_reports}
+use Rattle.strip_report.specs.Joined.{joined_units, half_text, join_lines, JoinPrintsOnly}
+use Rattle.strip_report.proofs.JoinOnly.{join_reports, both_read}
 use Rattle.strip_report.proofs.Pieces.{pieces_are}
 use Rattle.strip_report.proofs.join.join_reports.Goals as goal
 
-pub joined_count-count-requires : goal.joined_count-count-requires
-joined_count-count-requires c =
-    let a = c.in_ok-a.a.route in
-    let b = c.in_ok-b.b.route in
-    record {
-      front = omega (arith, a.few, a.stops.ok.0, length-map (vec_items a.stops) plain, c.stop_count.ensures.value);
-      back = omega (arith, b.few, b.stops.ok.0, length-map (vec_items b.stops) plain, c.stop_count-2.ensures);
-    }
-
 pub returns : goal.returns
 returns c =
-    let strip = c.args.first.strip.now in
-    let rows = c.args.first.rows.now in
-    let from = c.args.first.calls in
-    let other = c.args.second.strip.now in
-    let more = c.args.second.rows.now in
-    let at = c.args.second.calls in
+    let strip = c.args.first.now.bytes.now in
+    let rows = vec_items c.args.first.now.rows in
+    let from = c.args.first.now.calls in
+    let other = c.args.second.now.bytes.now in
+    let more = vec_items c.args.second.now.rows in
+    let at = c.args.second.now.calls in
     let i = c.args.i in
     let leg = c.args.leg in
     let j = c.args.j in
@@ -42,28 +32,28 @@ returns c =
     let s = two.ended in
     let a = vec_items one.report in
     let b = vec_items two.report in
-    let ps = plains (vec_items one.route.stops) in
-    let qs = plains (vec_items two.route.stops) in
+    let ps = plains one.route.stops in
+    let qs = plains two.route.stops in
     let result = joined_units c.join-joined.result in
     let n = c.joined_count-count.result in
     let x : (v : StripReport whole decimal (due_meaning rows) strip from r a) × (ps ≡ map told v.facts) =
-    subst (λ (l : List DueRow). (v : StripReport whole decimal (due_meaning l) strip from r a) × (ps ≡ map told v.facts)) c.in_ok-money_book.ensures (shown.told_by, shown.stops) in
+    subst (λ (l : List DueRow). (v : StripReport whole decimal (due_meaning l) strip from r a) × (ps ≡ map told v.facts)) (c.in_ok-money_book.ensures ∙ c.as_slice.ensures.value) (shown.told_by, shown.stops) in
     let y : (v : StripReport whole decimal (due_meaning more) other at s b) × (qs ≡ map told v.facts) =
-    subst (λ (l : List DueRow). (v : StripReport whole decimal (due_meaning l) other at s b) × (qs ≡ map told v.facts)) c.in_ok-money_book-2.ensures (shown-too.told_by, shown-too.stops) in
-    let book : vec_items one.route.source.rows ≡ rows = ap (λ (k : DueBook). vec_items k.rows) shown.source ∙ c.in_ok-money_book.ensures in
-    let book-too : vec_items two.route.source.rows ≡ more = ap (λ (k : DueBook). vec_items k.rows) shown-too.source ∙ c.in_ok-money_book-2.ensures in
+    subst (λ (l : List DueRow). (v : StripReport whole decimal (due_meaning l) other at s b) × (qs ≡ map told v.facts)) (c.in_ok-money_book-2.ensures ∙ c.as_slice-2.ensures.value) (shown-too.told_by, shown-too.stops) in
+    let book : vec_items one.route.source.rows ≡ rows = ap (λ (k : DueBook). vec_items k.rows) shown.source ∙ c.in_ok-money_book.ensures ∙ c.as_slice.ensures.value in
+    let book-too : vec_items two.route.source.rows ≡ more = ap (λ (k : DueBook). vec_items k.rows) shown-too.source ∙ c.in_ok-money_book-2.ensures ∙ c.as_slice-2.ensures.value in
     let judged : JoinJudged whole (due_meaning rows) ps i leg (due_meaning more) qs j result =
     subst (λ (l : List DueRow). JoinJudged whole (due_meaning rows) ps i leg (due_meaning l) qs j result) book-too
     (subst (λ (l : List DueRow). JoinJudged whole (due_meaning l) ps i leg (due_meaning (vec_items two.route.source.rows)) qs j result) book c.join-joined.ensures) in
     let count : n ≡ min i (length ps) + (length qs - (j - 1)) =
-    c.joined_count-count.ensures ∙ ap (λ (k : ℕ). min i k + (c.stop_count-2.result - (j - 1))) c.stop_count.ensures.value ∙ ap (λ (k : ℕ). min i (length ps) + (k - (j - 1))) c.stop_count-2.ensures in
-    let front = c.as_slice-3.ensures.value ∙ c.in_ok-front.ensures ∙ ap (λ (l : List ℕ). half_text (codes "first") l r) c.as_slice.ensures.value in
-    let back = c.as_slice-4.ensures.value ∙ c.in_ok-back.ensures ∙ ap (λ (l : List ℕ). half_text (codes "second") l s) c.as_slice-2.ensures.value in
+    c.joined_count-count.ensures ∙ ap (λ (k : ℕ). min i k + (c.stop_count-2.result - (j - 1))) c.stop_count.ensures.value ∙ ap (λ (k : ℕ). min i (length ps) + (k - (j - 1))) c.stop_count-2.ensures.value in
+    let front = c.as_slice-5.ensures.value ∙ c.in_ok-front.ensures ∙ ap (λ (l : List ℕ). half_text (codes "first") l r) c.as_slice-3.ensures.value in
+    let back = c.as_slice-6.ensures.value ∙ c.in_ok-back.ensures ∙ ap (λ (l : List ℕ). half_text (codes "second") l s) c.as_slice-4.ensures.value in
     let last = c.as_str.ensures.value ∙ c.in_ok-last.ensures in
-    let f = c.as_slice-3.result.now in
-    let g = c.as_slice-4.result.now in
+    let f = c.as_slice-5.result.now in
+    let g = c.as_slice-6.result.now in
     let h = c.as_str.result.now in
-    IfOk-weaker c.put_together.result (λ v. vec_items v ≡ f ++ (g ++ h)) (λ v. JoinReports strip rows from i leg other more at j (vec_items v))
-    (λ v is. join_reports strip rows from i leg other more at j r s a b (vec_items v) x.0 y.0 ps qs result n x.1 y.1 judged count
-    (pieces_are (vec_items v) f g h (half_text (codes "first") a r) (half_text (codes "second") b s) (join_lines n result) is front back last))
+    IfOk-weaker c.put_together.result (λ v. vec_items v ≡ f ++ (g ++ h)) (λ v. JoinPrintsOnly strip i leg other j (vec_items v))
+    (λ v is. both_read strip i leg other j (vec_items v) rows more from at c.args.first.now.held c.args.second.now.held (join_reports strip rows from i leg other more at j r s a b (vec_items v) x.0 y.0 ps qs result n x.1 y.1 judged count
+    (pieces_are (vec_items v) f g h (half_text (codes "first") a r) (half_text (codes "second") b s) (join_lines n result) is front back last)))
     c.put_together.ensures

@@ -1,22 +1,19 @@
-use Rattle.std.proofs.Common.{◌-◌, take, vec_items, refl, arith}
-use Rattle.std.proofs.lemmas.Result.{IfOk-weaker}
-use Rattle.reader.proofs.Fronts.{front}
-use Rattle.strip_report.specs.Joined.{JoinReports, JoinPrintsOnly}
-use Rattle.strip_report.proofs.JoinOnly.{both_read}
+use Rattle.std.proofs.Common.{◌≡◌, ℕ, List, Ok, Err, vec_items, subst}
+use Rattle.std.proofs.lemmas.Result.{IfOk-at_ok, IfErr-at_err, IfOk-weaker}
+use Rattle.reader.specs.FaultLine.{fault_line}
+use Rattle.reader.specs.Reading.{strip_answer}
+use Rattle.strip_report.specs.Joined.{JoinPrintsOnly}
+use Rattle.strip_report.proofs.JoinOnly.{second_fault}
 use Rattle.strip_report.proofs.join.join_text.Goals as goal
 
-pub returns-in-Ok-read_rows : goal.returns-in-Ok-read_rows
-returns-in-Ok-read_rows c =
-    let strip = c.args.first.now in
+pub returns : goal.returns
+returns c =
+    let first = c.args.first.now in
     let other = c.args.second.now in
-    let i = c.args.i in
-    let leg = c.args.leg in
-    let j = c.args.j in
-    let got = c.in-Ok.read in
-    let too = c.in-Ok-read_rows.other in
-    let rows = take (got.rows - 0) c.read_rows.new.table in
-    let more = take (too.rows - 0) c.read_rows-2.new.table in
-    let at_front = front strip _ c.read_rows.new.table got (got.rows - 0) (omega arith) refl c.in-Ok.ensures.exact in
-    let at_back = front other _ c.read_rows-2.new.table too (too.rows - 0) (omega arith) refl c.in-Ok-read_rows.ensures.exact in
-    IfOk-weaker c.join_reports.result (λ v. JoinReports strip rows got.calls i leg other more too.calls j (vec_items v)) (λ v. JoinPrintsOnly strip i leg other j (vec_items v))
-    (λ v made. both_read strip i leg other j (vec_items v) got too rows more c.in-Ok.ensures.answer c.in-Ok-read_rows.ensures.answer at_front at_back made) c.join_reports.ensures
+    let strip = c.in-Ok.strip in
+    let fault = c.in-Err-2.fault in
+    let same = IfOk-at_ok (λ s. s.bytes.now ≡ first) c.in-Ok.is c.in_ok-strip.ensures.same in
+    let held = subst (λ (l : List ℕ). strip_answer l ≡ Ok (vec_items strip.rows, strip.calls)) same strip.held in
+    let read = IfErr-at_err (λ f. strip_answer other ≡ Err f) c.in-Err-2.is c.in_ok-second.ensures.fault in
+    IfOk-weaker c.fault_text-in-Err-2.result (λ v. vec_items v ≡ fault_line fault) (λ v. JoinPrintsOnly first c.args.i c.args.leg other c.args.j (vec_items v))
+    (λ v is. second_fault first c.args.i c.args.leg other c.args.j (vec_items v) (vec_items strip.rows) strip.calls fault held read is) c.fault_text-in-Err-2.ensures

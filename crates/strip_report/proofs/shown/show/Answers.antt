@@ -4,7 +4,7 @@ use Rattle.strip_report.proofs.shown.show.Goals as goal
 
 pub returns : goal.returns
 returns g c =
-    shows g.S.Kind.Cost.algebra g.S.Kind.Written.text g.S.Source.meaning c.args.source c.args.strip.now c.args.from
+    shows g.S.Kind.Cost.algebra g.S.Kind.Written.text g.S.Source.meaning c.args.source c.args.strip.now.bytes.now c.args.strip.now.calls
     c.in_ok-route.route.source
     c.run_calls-ended.new.route.source
     c.in_ok-route.route.stops
