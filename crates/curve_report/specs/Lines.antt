@@ -1,12 +1,10 @@
--- The lines that are printed of a strip: one for each of its curves and one for their number, or one for its fault.
+-- The lines that are printed of a strip: one for each of its curves and one for their number.
 use Rattle.std.specs.Prelude.{◌≡◌, ℕ, zero, suc, ◌<◌, true, List, [], ◌∷◌, ◌++◌, length, is_some, Some, codes, decimal}
 use Rattle.cost.specs.Amounts.{whole}
 use Rattle.source.specs.declared.due.DueRow.{DueRow}
 use Rattle.source.specs.Meaning.{span_of}
 use Rattle.source.specs.Due.{due_meaning}
 use Rattle.source.specs.Cheapest.{Cheapest}
-use Rattle.reader.specs.declared.faults.Fault.{Fault}
-use Rattle.reader.specs.Causes.{cause_number}
 
 -- the byte that ends a line
 abbrev pub ended : List ℕ
@@ -47,9 +45,3 @@ rows_line count = codes "rows " ++ (decimal count ++ ended)
 -- the lines of all the rows, and how many there are
 abbrev pub RowsText : List DueRow → ℕ → List ℕ → Type 0
 RowsText rows count text = (lines : List ℕ) × CurveLines rows count lines × (text ≡ lines ++ rows_line count)
-
-abbrev pub fault_text : ℕ → ℕ → List ℕ
-fault_text number byte = codes "fault " ++ (decimal number ++ (codes " byte " ++ (decimal byte ++ ended)))
-
-abbrev pub fault_line : Fault → List ℕ
-fault_line fault = fault_text (cause_number fault.cause) fault.byte

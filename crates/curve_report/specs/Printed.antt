@@ -5,7 +5,8 @@ use Rattle.reader.specs.declared.faults.Fault.{Fault}
 use Rattle.reader.specs.declared.rows.RowsRead.{RowsRead}
 use Rattle.reader.specs.Reading.{rows_answer}
 use Rattle.reader.specs.Exactly.{Holds}
-use Rattle.curve_report.specs.Lines.{RowsText, fault_line}
+use Rattle.reader.specs.FaultLine.{fault_line}
+use Rattle.curve_report.specs.Lines.{RowsText}
 
 -- by what reading the rows answers: the lines of the rows that the strip holds, or its fault
 abbrev pub PrintedBy : List ℕ → Result RowsRead Fault → List ℕ → Type 0

@@ -1,9 +1,8 @@
 ghost use Rattle.std.specs.Prelude.{◌≡◌, true, is_some, IfOk, string_bytes};
 ghost use Rattle.source.specs.Meaning.{span_of};
 ghost use Rattle.source.specs.Due.{due_meaning};
-ghost use Rattle.curve_report.specs.Lines.{line_of, CurveLine, rows_line, fault_text, fault_line};
+ghost use Rattle.curve_report.specs.Lines.{line_of, CurveLine, rows_line};
 
-use reader::faults::Fault;
 use source::cheapest::cheapest;
 use source::due::DueBook;
 use source::source::Source;
@@ -23,7 +22,7 @@ fn put_line(
 }
 
 // The line of an open curve.
-pub fn curve_line(heap: Global, book: &DueBook, curve: u8) -> Result<String, AllocError>
+pub(crate) fn curve_line(heap: Global, book: &DueBook, curve: u8) -> Result<String, AllocError>
     requires { is_some (span_of ((due_meaning (book.now.rows.items)).curve curve)) ≡ true }
     ensures { IfOk result (λ s. CurveLine book.now.rows.items curve (string_bytes s)) }
 {
@@ -36,20 +35,9 @@ pub fn curve_line(heap: Global, book: &DueBook, curve: u8) -> Result<String, All
     put_line(heap, curve, first, last, best.0, best.1.units())
 }
 
-pub fn rows_line(heap: Global, count: usize) -> Result<String, AllocError>
+// How many rows there are.
+pub(crate) fn rows_line(heap: Global, count: usize) -> Result<String, AllocError>
     ensures { IfOk result (λ s. string_bytes s ≡ rows_line count) }
 {
     format!(in heap; "rows {count}\n")
-}
-
-fn put_fault(heap: Global, number: u8, byte: usize) -> Result<String, AllocError>
-    ensures { IfOk result (λ s. string_bytes s ≡ fault_text number byte) }
-{
-    format!(in heap; "fault {number} byte {byte}\n")
-}
-
-pub fn fault_line(heap: Global, fault: Fault) -> Result<String, AllocError>
-    ensures { IfOk result (λ s. string_bytes s ≡ fault_line fault) }
-{
-    put_fault(heap, fault.cause.number(), fault.byte)
 }

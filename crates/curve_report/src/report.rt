@@ -4,18 +4,11 @@ ghost use Rattle.source.specs.Due.{due_meaning};
 ghost use Rattle.curve_report.specs.Lines.{Grown, CurveLines, EachOpen, RowsText};
 ghost use Rattle.curve_report.specs.Printed.{PrintsOnly};
 
-use crate::lines::{curve_line, fault_line, rows_line};
-use reader::rows::read_rows;
+use crate::lines::{curve_line, rows_line};
+use reader::lines::fault_line;
+use reader::strip::Strip;
 use source::due::{DueBook, DueRow};
 use std::alloc::{AllocError, Global};
-
-const BLANK: DueRow = DueRow {
-    first: 0,
-    last: 0,
-    due: 0,
-    early: 0,
-    late: 0,
-};
 
 // Adds the line of an open curve.
 fn add_curve(heap: Global, book: &DueBook, curve: u8, text: &mut String) -> Result<(), AllocError>
@@ -52,16 +45,20 @@ fn rows_text(heap: Global, rows: &[DueRow]) -> Result<String, AllocError>
     Ok(text)
 }
 
+// What is printed of a strip whose rows are lawful.
+fn strip_text(heap: Global, strip: &Strip<'_>) -> Result<String, AllocError>
+    ensures { IfOk result (λ s. PrintsOnly strip.now.bytes.now (string_bytes s)) }
+{
+    rows_text(heap, strip.rows.as_slice())
+}
+
 // What is printed of a strip: a line for each of its curves and how many there are, or its fault.
+#[tactic(auto, using(crate::proofs::Front::printed_fault))]
 pub fn curves_text(heap: Global, strip: &[u8]) -> Result<String, AllocError>
     ensures { IfOk result (λ s. PrintsOnly strip.now (string_bytes s)) }
 {
-    let mut table = [BLANK; 64];
-    match read_rows(strip, &mut table) {
-        Ok(read) => {
-            let count = read.rows;
-            rows_text(heap, &table[0..count])
-        }
+    match Strip::read(heap, strip)? {
+        Ok(strip) => strip_text(heap, &strip),
         Err(fault) => fault_line(heap, fault),
     }
 }

@@ -42,6 +42,10 @@ same_text a c b d r t s u x y e f g h k =
     ∙ ap (λ (v : Result ℕ Fault). join_text c t d v x) h
     ∙ ap (λ (l : List ℕ). join_text c t d u l) k
 
+-- three texts, by what each is
+pub pieces_are : (v f g h x y z : List ℕ) → v ≡ f ++ (g ++ h) → f ≡ x → g ≡ y → h ≡ z → v ≡ x ++ (y ++ z)
+pieces_are v f g h x y z e p q r = cc
+
 module _ (strip : List ℕ) (rows : List DueRow) (from i leg : ℕ) (other : List ℕ) (more : List DueRow) (at j : ℕ) where
   pub join_reports : (r s : Result ℕ Fault) (a b text : List ℕ) (x : StripReport whole decimal (due_meaning rows) strip from r a) (y : StripReport whole decimal (due_meaning more) other at s b)
       (ps qs : List Plain) (result : Result ℕ Refusal) (n : ℕ) → ps ≡ map told x.facts → qs ≡ map told y.facts → JoinJudged whole (due_meaning rows) ps i leg (due_meaning more) qs j result

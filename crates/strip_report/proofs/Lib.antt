@@ -1,6 +1,5 @@
 mod Laid
 mod Reading
 mod Late
-mod Pieces
 mod Only
 mod JoinOnly

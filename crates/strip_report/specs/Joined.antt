@@ -14,12 +14,11 @@ use Rattle.reader.specs.Reading.{rows_answer}
 use Rattle.reader.specs.Exactly.{Holds}
 use Rattle.reader.specs.FaultLine.{fault_line, refusal_line}
 use Rattle.strip_report.specs.Shown.{StripReport}
-use Rattle.strip_report.specs.Printed.{heading}
+use Rattle.strip_report.specs.Printed.{heading, ending}
 
 -- under a strip's report: the fault at which its calls ended, if any
 abbrev pub fault_in : Result ℕ Fault → List ℕ
-fault_in (Ok n) = []
-fault_in (Err f) = fault_line f
+fault_in r = ending [] r
 
 abbrev pub joined_text : ℕ → ℕ → List ℕ
 joined_text n c = codes "joined " ++ (decimal n ++ (10 ∷ (codes "least " ++ (decimal c ++ (10 ∷ [])))))

@@ -27,10 +27,14 @@ both x = spaced (decimal x.0) (decimal x.1)
 abbrev pub heading : List ℕ → List ℕ
 heading word = word ++ (10 ∷ [])
 
+-- how a strip's calls ended: these words where there was no fault, or else the fault
+abbrev pub ending : List ℕ → Result ℕ Fault → List ℕ
+ending words (Ok n) = words
+ending words (Err f) = fault_line f
+
 -- the last line
 abbrev pub last_line : Result ℕ Fault → List ℕ
-last_line (Ok n) = heading (codes "whole")
-last_line (Err f) = fault_line f
+last_line r = ending (heading (codes "whole")) r
 
 abbrev pub strip_text : List ℕ → List ℕ → Result ℕ Fault → List ℕ
 strip_text money promise r = heading (codes "money") ++ (money ++ (heading (codes "promise") ++ (promise ++ last_line r)))

@@ -2,11 +2,12 @@ ghost use Rattle.std.specs.Prelude.{◌≡◌, ◌+◌, ◌-◌, ◌≤◌, min,
 ghost use Rattle.strip_report.specs.Joined.{joined_units, fault_in, joined_text, join_lines, JoinPrintsOnly};
 
 use crate::books::money_book;
+use crate::pieces::{ending, put_together};
 use crate::shown::show;
 use crate::text::fault_text;
 use cost::amount::Amount;
 use reader::faults::Fault;
-use reader::lines::{fault_line, refusal_line};
+use reader::lines::refusal_line;
 use reader::strip::Strip;
 use route::join::join;
 use route::stop::Refusal;
@@ -41,31 +42,6 @@ fn join_lines(
     }
 }
 
-// The fault at which a strip's calls ended, if any.
-fn fault_in(heap: Global, ended: Result<usize, Fault>) -> Result<String, AllocError>
-    ensures { IfOk result (λ s. string_bytes s ≡ fault_in ended) }
-{
-    match ended {
-        Ok(_) => Ok(String::new(heap)),
-        Err(fault) => fault_line(heap, fault),
-    }
-}
-
-// Three texts, one behind another.
-fn put_together(
-    heap: Global,
-    first: &[u8],
-    second: &[u8],
-    last: &str,
-) -> Result<Vec<u8>, AllocError>
-    ensures { IfOk result (λ v. v.items ≡ first.now ++ (second.now ++ last.now)) }
-{
-    let mut text = Vec::from_slice(heap, first)?;
-    text.extend_from_slice(second)?;
-    text.extend_from_slice(last.as_bytes())?;
-    Ok(text)
-}
-
 // A heading, the report under it, and the fault at which the calls ended, if any.
 fn half_text(
     heap: Global,
@@ -75,8 +51,8 @@ fn half_text(
 ) -> Result<Vec<u8>, AllocError>
     ensures { IfOk result (λ v. v.items ≡ heading.now ++ (report.now ++ fault_in ended)) }
 {
-    let fault = fault_in(heap, ended)?;
-    put_together(heap, heading, report, fault.as_str())
+    let fault = ending(heap, ended, "")?;
+    put_together(heap, &[heading, report, fault.as_bytes()])
 }
 
 // What is printed of two strips whose rows are lawful, and of the join of the routes that their calls leave.
@@ -97,7 +73,7 @@ fn join_reports(
     let last = join_lines(heap, count, joined)?;
     let front = half_text(heap, b"first\n", a.report.as_slice(), a.ended)?;
     let back = half_text(heap, b"second\n", b.report.as_slice(), b.ended)?;
-    put_together(heap, front.as_slice(), back.as_slice(), last.as_str())
+    put_together(heap, &[front.as_slice(), back.as_slice(), last.as_bytes()])
 }
 
 // What is printed of two strips and the join of the first i stops that one leaves with those of the other from place

@@ -3,5 +3,6 @@
 
 mod books;
 pub mod join;
+mod pieces;
 mod shown;
 pub mod text;

@@ -1,8 +1,9 @@
-ghost use Rattle.std.specs.Prelude.{◌≡◌, IfOk, string_bytes};
+ghost use Rattle.std.specs.Prelude.{◌≡◌, IfOk};
 ghost use Rattle.reader.specs.FaultLine.{fault_line};
-ghost use Rattle.strip_report.specs.Printed.{last_line, strip_text, PrintsOnly};
+ghost use Rattle.strip_report.specs.Printed.{strip_text, PrintsOnly};
 
 use crate::books::{money_book, promise_books};
+use crate::pieces::{ending, put_together};
 use crate::shown::show;
 use reader::faults::Fault;
 use reader::lines::fault_line;
@@ -17,16 +18,6 @@ pub(crate) fn fault_text(heap: Global, fault: Fault) -> Result<Vec<u8>, AllocErr
     Vec::from_slice(heap, line.as_bytes())
 }
 
-// The last line: `whole`, or the fault at which the calls ended.
-fn last_line(heap: Global, ended: Result<usize, Fault>) -> Result<String, AllocError>
-    ensures { IfOk result (λ s. string_bytes s ≡ last_line ended) }
-{
-    match ended {
-        Ok(_) => String::from_str(heap, "whole\n"),
-        Err(fault) => fault_line(heap, fault),
-    }
-}
-
 // The two reports, each under its heading, and the last line.
 fn strip_lines(
     heap: Global,
@@ -36,13 +27,9 @@ fn strip_lines(
 ) -> Result<Vec<u8>, AllocError>
     ensures { IfOk result (λ v. v.items ≡ strip_text money.now promise.now ended) }
 {
-    let last = last_line(heap, ended)?;
-    let mut text = Vec::from_slice(heap, b"money\n")?;
-    text.extend_from_slice(money)?;
-    text.extend_from_slice(b"promise\n")?;
-    text.extend_from_slice(promise)?;
-    text.extend_from_slice(last.as_bytes())?;
-    Ok(text)
+    let last = ending(heap, ended, "whole\n")?;
+    let pieces: [&[u8]; 5] = [b"money\n", money, b"promise\n", promise, last.as_bytes()];
+    put_together(heap, &pieces)
 }
 
 // What is printed of a strip whose rows are lawful. Both routes answer its calls alike, so the fault of one is the fault

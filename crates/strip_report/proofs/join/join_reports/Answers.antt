@@ -1,4 +1,4 @@
-use Rattle.std.proofs.Common.{◌≡◌, ℕ, ◌+◌, ◌-◌, min, List, ◌++◌, map, length, vec_items, codes, decimal, ap, ◌∙◌, subst}
+use Rattle.std.proofs.Common.{◌≡◌, ℕ, ◌+◌, ◌-◌, min, List, ◌++◌, [], append-nil, map, length, vec_items, codes, decimal, ap, ◌∙◌, subst}
 use Rattle.std.proofs.lemmas.Result.{IfOk-weaker}
 use Rattle.cost.specs.Amounts.{whole}
 use Rattle.source.specs.declared.due.DueBook.{DueBook}
@@ -9,8 +9,7 @@ use Rattle.route.specs.Joins.{JoinJudged}
 use Rattle.route.specs.Guarantee.{told}
 use Rattle.strip_report.specs.Shown.{StripReport}
 use Rattle.strip_report.specs.Joined.{joined_units, half_text, join_lines, JoinPrintsOnly}
-use Rattle.strip_report.proofs.JoinOnly.{join_reports, both_read}
-use Rattle.strip_report.proofs.Pieces.{pieces_are}
+use Rattle.strip_report.proofs.JoinOnly.{pieces_are, join_reports, both_read}
 use Rattle.strip_report.proofs.join.join_reports.Goals as goal
 
 pub returns : goal.returns
@@ -49,11 +48,11 @@ returns c =
     c.joined_count-count.ensures ∙ ap (λ (k : ℕ). min i k + (c.stop_count-2.result - (j - 1))) c.stop_count.ensures.value ∙ ap (λ (k : ℕ). min i (length ps) + (k - (j - 1))) c.stop_count-2.ensures.value in
     let front = c.as_slice-5.ensures.value ∙ c.in_ok-front.ensures ∙ ap (λ (l : List ℕ). half_text (codes "first") l r) c.as_slice-3.ensures.value in
     let back = c.as_slice-6.ensures.value ∙ c.in_ok-back.ensures ∙ ap (λ (l : List ℕ). half_text (codes "second") l s) c.as_slice-4.ensures.value in
-    let last = c.as_str.ensures.value ∙ c.in_ok-last.ensures in
+    let last = c.as_bytes.ensures.value ∙ c.in_ok-last.ensures in
     let f = c.as_slice-5.result.now in
     let g = c.as_slice-6.result.now in
-    let h = c.as_str.result.now in
-    IfOk-weaker c.put_together.result (λ v. vec_items v ≡ f ++ (g ++ h)) (λ v. JoinPrintsOnly strip i leg other j (vec_items v))
+    let h = c.as_bytes.result.now in
+    IfOk-weaker c.put_together.result (λ v. vec_items v ≡ f ++ (g ++ (h ++ []))) (λ v. JoinPrintsOnly strip i leg other j (vec_items v))
     (λ v is. both_read strip i leg other j (vec_items v) rows more from at c.args.first.now.held c.args.second.now.held (join_reports strip rows from i leg other more at j r s a b (vec_items v) x.0 y.0 ps qs result n x.1 y.1 judged count
-    (pieces_are (vec_items v) f g h (half_text (codes "first") a r) (half_text (codes "second") b s) (join_lines n result) is front back last)))
+    (pieces_are (vec_items v) f g h (half_text (codes "first") a r) (half_text (codes "second") b s) (join_lines n result) (is ∙ ap (λ (l : List ℕ). f ++ (g ++ l)) (append-nil h)) front back last)))
     c.put_together.ensures
