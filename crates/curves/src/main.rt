@@ -9,6 +9,7 @@ use std::io;
 const ENOUGH: usize = 4097;
 
 fn main(rt: HostRuntime) -> io::Result<()> {
+    // Kept: a buffer of its own, which `read_strip` fills without the heap.
     let mut buffer = [0; ENOUGH];
     let len = read_strip(&mut rt.stdin(), &mut buffer)?;
     let text = curves_text(rt.alloc(), &buffer[0..len])?;

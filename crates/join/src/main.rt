@@ -2,20 +2,16 @@
 #![tactic(auto)]
 
 use anyhow::{Result, bail};
+use reader::input::read_whole;
 use std::fs::File;
-use std::io::{Read, Write};
+use std::io::Write;
 use std::{env, io};
 use strip_report::join::join_text;
 
 const USAGE: &str = "usage: join FIRST I LEG SECOND J (two strip files, and whole numbers)";
 
-// One byte more than a strip may have, so that a longer one is seen to be too long.
-const ENOUGH: u64 = 4097;
-
 fn read_file(rt: &HostRuntime, path: &str) -> io::Result<Vec<u8>> {
-    let mut strip = Vec::new(rt.alloc());
-    File::open(rt, path)?.take(ENOUGH).read_to_end(&mut strip)?;
-    Ok(strip)
+    read_whole(rt.alloc(), File::open(rt, path)?)
 }
 
 // The bytes of a strip file; what is wrong is told with the file's name.
