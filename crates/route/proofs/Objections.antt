@@ -1,12 +1,11 @@
 -- What the examinations leave when none of them speaks against a splice, and which numbers they give.
-use Rattle.std.proofs.Common.{◌≡◌, ℕ, ◌+◌, ◌<◌, ◌≤◌, Bool, true, false, cond, ◌||◌, ltb, leb, List, length, Some, None, Option, sym, refl, arith}
+use Rattle.std.proofs.Common.{◌≡◌, ℕ, ◌+◌, ◌≤◌, Bool, true, false, cond, ◌||◌, ltb, leb, List, length, Some, None, Option, sym, refl, arith}
 use borrow.Author.Tests.{false-leb, false-ltb}
 use Rattle.source.specs.Meaning.{Meaning}
 use Rattle.route.specs.declared.stop.Splice.{Splice}
 use Rattle.route.specs.declared.stop.Splice.TheVariants.{Insert, Remove, Change}
 use Rattle.route.specs.Plain.{Plain}
 use Rattle.route.specs.Judged.{outside, objection, HasPlace}
-use Rattle.route.specs.Joins.{objection_to_join}
 
 passed : (b : Bool) (n : ℕ) (o : Option ℕ) → cond b (Some n) o ≡ None → (b ≡ false) × (o ≡ None)
 passed true n o e = absurd (let z : ◌≡◌ {A = ℕ} 0 1 = cc in omega arith)

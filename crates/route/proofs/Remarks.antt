@@ -1,9 +1,8 @@
 -- Marks read from the table and written back.
-use Rattle.std.proofs.Common.{◌≡◌, ℕ, ◌+◌, ◌<◌, ◌≤◌, List, [], ◌∷◌, ◌++◌, length, get_or, take, drop, set, sym, refl, ap, ◌∙◌, append_assoc, append-nil, arith}
-use Rattle.std.proofs.lemmas.List.{length-map, take_more, take_more_set, drop_more, drop-set-lt, get_or-map, take_all, drop_all}
+use Rattle.std.proofs.Common.{◌≡◌, ℕ, ◌≤◌, List, [], ◌∷◌, length, take, refl, ap, arith}
 use Rattle.route.specs.declared.stop.Stop.{Stop}
 use Rattle.route.specs.Plain.{Plain}
-use Rattle.route.specs.Table.{plain, plains, mark, marks}
+use Rattle.route.specs.Table.{plain, plains, marks}
 use Rattle.route.specs.Calls.{remarked}
 
 pub plains_remarked : (ss : List Stop) (ms : List ℕ) → plains (remarked ss ms) ≡ plains ss

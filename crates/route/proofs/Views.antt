@@ -6,9 +6,9 @@ use Rattle.std.specs.Option.{option_map}
 use Rattle.std.specs.List.{slice_get}
 use Rattle.cost.specs.Algebra.{Algebra}
 use Rattle.source.specs.Meaning.{Curve, Meaning, span_of, price_of}
-use Rattle.timing.specs.Visits.{Visit, nowhere, at, span, asked}
+use Rattle.timing.specs.Visits.{Visit, at, span, asked}
 use Rattle.route.specs.declared.stop.Stop.{Stop}
-use Rattle.route.specs.Plain.{Plain, seen, visit, visits}
+use Rattle.route.specs.Plain.{Plain, visit, visits}
 use Rattle.route.specs.Table.{plain, plains}
 use Rattle.route.specs.Drafts.{behind, seen_at}
 

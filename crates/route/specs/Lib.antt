@@ -10,3 +10,4 @@ pub mod Calls
 pub mod Guarantee
 pub mod Unique
 pub mod Runs
+pub mod FactsText

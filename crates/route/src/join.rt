@@ -64,6 +64,7 @@ fn all_marks<L: Line>(line: &L) -> [u16; 128]
 }
 
 // The least cost of a line that has a timetable. All its marks are worked out anew.
+#[tactic(auto, using(crate::proofs::Readings::minutes_take, crate::proofs::Readings::least_by))]
 fn least_of<L: Line>(line: &L) -> L::Kind
     requires sound { Sound L.Kind.Cost.algebra (L.visits line.now) }
     requires feasible { Feasible (L.visits line.now) }
@@ -80,6 +81,7 @@ fn least_of<L: Line>(line: &L) -> L::Kind
 
 impl<A: Source> Route<A> {
     // The least cost of this route joined to another.
+    #[tactic(auto, using(crate::proofs::Joinings::join_refused, crate::proofs::Joinings::join_blocked, crate::proofs::Joinings::join_accepted))]
     fn joined_cost<'a, B: Source<Exact = A::Exact, Kind = A::Kind>>(
         &'a self,
         b: &'a Route<B>,

@@ -81,6 +81,7 @@ impl<S: Source> Route<S> {
     }
 
     // Whether the splice is accepted; the route stays.
+    #[tactic(auto, using(crate::proofs::Judgements::judged_refused, crate::proofs::Judgements::judged_served))]
     pub(crate) fn judge(&self, splice: Splice) -> Result<(), Refusal>
         ensures judged { Judged S.Kind.Cost.algebra (S.Source.meaning self.now.source) (plains self.now.stops) splice result (left result splice (plains self.now.stops)) }
         ensures place { OnOk result (HasPlace (length self.now.stops) splice) }

@@ -20,11 +20,13 @@ impl<S: Source> Line for Draft<'_, S> {
         self.stop(i).map_or(0, |stop| stop.leg)
     }
 
+    #[tactic(auto, using(crate::proofs::Views::window_there, crate::proofs::Views::window_nowhere))]
     fn window(&self, i: usize) -> Option<(u16, u16)> {
         let stop = self.stop(i)?;
         self.source.window(stop.curve)
     }
 
+    #[tactic(auto, using(crate::proofs::Views::cost_there, crate::proofs::Views::cost_nowhere))]
     fn cost(&self, i: usize, minute: u16) -> Option<S::Kind> {
         let stop = self.stop(i)?;
         self.source.cost(stop.curve, minute)

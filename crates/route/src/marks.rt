@@ -26,6 +26,7 @@ fn refresh_from<S: Source>(source: &S, stops: &mut StopTable, from: usize)
 }
 
 // Finds the marks anew after an accepted splice has altered the table ss: only those from its place on.
+#[tactic(auto, using(crate::proofs::Settling::settled, crate::proofs::Settling::kept_on))]
 fn settle<S: Source>(source: &S, stops: &mut StopTable, splice: Splice)
     requires { Lawful S.Kind.Cost.algebra (S.Source.meaning source.now) }
     ensures kept { (ss : List Stop) → Kept S.Kind.Cost.algebra (S.Source.meaning source.now) ss → Judged S.Kind.Cost.algebra (S.Source.meaning source.now) (plains ss) splice (Ok tt) (spliced splice (plains ss)) → Altered ss splice stops.old → Kept S.Kind.Cost.algebra (S.Source.meaning source.now) stops.new }

@@ -24,6 +24,7 @@ impl<S: Source> Route<S> {
     }
 
     // The minute of stop i, counted from 0, in the timetable that the marks give.
+    #[tactic(auto, using(crate::proofs::Readings::loaded_minute, crate::proofs::Splices::same_line))]
     fn minute_at(&self, i: usize) -> u16
         ensures { result ≡ slice_index (timed S.Kind.Cost.algebra (S.Source.meaning self.now.source) self.now.stops) i }
     {
@@ -57,6 +58,7 @@ impl<S: Source> Route<S> {
     }
 
     // The facts of all stops, in order.
+    #[tactic(auto, using(crate::proofs::Runnings::tells_all))]
     pub(crate) fn all_facts(&self, heap: Global) -> Result<Vec<Facts>, AllocError>
         ensures { IfOk result (λ facts. Told S.Kind.Cost.algebra (S.Source.meaning self.now.source) self.now.stops facts.items) }
     {
@@ -68,6 +70,7 @@ impl<S: Source> Route<S> {
     }
 
     // The cost of the timetable that the marks give.
+    #[tactic(auto, using(crate::proofs::Readings::marked_best, crate::proofs::Readings::loaded_least, crate::proofs::Splices::same_line))]
     fn timed_cost(&self) -> S::Kind
         ensures lawful { Lawful S.Kind.Cost.algebra (S.Source.meaning self.now.source) }
         ensures marked { Marked S.Kind.Cost.algebra (S.Source.meaning self.now.source) self.now.stops }

@@ -1,5 +1,6 @@
 ghost use Rattle.std.specs.Prelude.{◌≡◌, ◌-◌, Some, cond};
 ghost use Rattle.route.specs.Refusals.{number, named, refusal_text};
+ghost use Rattle.route.specs.FactsText.{facts_text};
 ghost use Rattle.route.specs.Plain.{place};
 
 use std::fmt;
@@ -20,6 +21,19 @@ pub struct Facts {
     pub leg: u16,
     pub mark: u16,
     pub minute: u16,
+}
+
+// Words and numbers, in the order of the fields.
+impl Display for Facts {
+    ghost output = { λ f. Some (facts_text f) };
+
+    fn fmt<W: fmt::Write>(&self, f: &mut Formatter<W>) -> fmt::Result {
+        write!(
+            f,
+            "curve {} leg {} mark {} minute {}",
+            self.curve, self.leg, self.mark, self.minute
+        )
+    }
 }
 
 // A change of the stop table. Places are counted from 1.

@@ -51,6 +51,7 @@ impl StopTable {
     }
 
     // Gives stop i, counted from 0, if there is one, another leg.
+    #[tactic(auto, using(crate::proofs::Alterations::leg_set, crate::proofs::Alterations::leg_past, crate::proofs::Alterations::marks_set))]
     fn set_leg(&mut self, i: usize, leg: u16)
         ensures stops { plains self.new ≡ take i (plains self.old) ++ releg leg (drop i (plains self.old)) }
         ensures marks { marks self.new ≡ marks self.old }

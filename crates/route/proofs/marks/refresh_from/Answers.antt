@@ -1,10 +1,9 @@
-use Rattle.std.proofs.Common.{◌≡◌, ◌≤◌, List, length, take, ◌∙◌, ap, subst, arith}
+use Rattle.std.proofs.Common.{◌≤◌, List, length, take, ◌∙◌, ap, subst, arith}
 use Rattle.std.proofs.lemmas.List.{length-map}
 use Rattle.timing.specs.Visits.{Visit}
 use Rattle.timing.specs.Timetables.{Feasible}
 use Rattle.timing.specs.Marks.{Marks}
 use Rattle.timing.specs.Sound.{Sound}
-use Rattle.route.specs.declared.stop.Stop.{Stop}
 use Rattle.route.specs.Table.{plain}
 use Rattle.route.proofs.Splices.{table_line}
 use Rattle.route.proofs.Settling.{refreshed}

@@ -1,4 +1,4 @@
-use Rattle.std.proofs.Common.{◌≡◌, ◌-◌, ◌≤◌, List, length, take, drop, ap, sym, ◌∙◌, subst}
+use Rattle.std.proofs.Common.{◌-◌, List, take, drop, ap, sym, ◌∙◌, subst}
 use Rattle.std.proofs.lemmas.List.{take-map, drop-map}
 use Rattle.timing.specs.Visits.{Visit}
 use Rattle.timing.specs.Sound.{Sound}
@@ -7,11 +7,11 @@ use Rattle.route.specs.Over.{Over}
 use Rattle.route.specs.Kept.{Kept}
 use Rattle.route.specs.Plain.{releg}
 use Rattle.route.specs.Table.{plain, plains}
-use Rattle.route.proofs.Joinings.{same_joined, joined_few, joined_sound}
+use Rattle.route.proofs.Joinings.{same_joined, joined_sound}
 use Rattle.route.proofs.join.JoinAt.draft.Goals as goal
 
-pub returns : goal.returns
-returns g c =
+pub returns-clause-sound : goal.returns-clause-sound
+returns-clause-sound g c =
     let K = g.A.Kind.Cost.algebra in
     let M = g.A.Source.meaning in
     let N = g.B.Source.meaning in
@@ -26,8 +26,4 @@ returns g c =
     let same = same_joined K M N c.part.result.source a.source c.part-2.result.source b.source c.part.result.stops (take at.i (plains a.stops)) c.part-2.result.stops (releg at.leg (drop (at.j - 1) (plains b.stops))) (c.part.ensures.source ∙ ap (λ v. v.source) c.a.view_is) first (c.part-2.ensures.source ∙ ap (λ v. v.source) c.b.view_is) second in
     let ka = subst (λ (v : Over g.row.A.Denot Stop). Kept K (M v.source) v.stops) c.a.view_is c.a.invariant in
     let kb = subst (λ (v : Over g.row.B.Denot Stop). Kept K (N v.source) v.stops) c.b.view_is c.b.invariant in
-    record {
-      joined = same;
-      sound = subst (λ (vs : List (Visit g.row.A-Exact.Denot)). Sound K vs) (sym same) (joined_sound K (M a.source) (N b.source) a.stops b.stops at.i at.leg at.j ka kb);
-      few = subst (λ (vs : List (Visit g.row.A-Exact.Denot)). length vs ≤ 128) (sym same) (joined_few K (M a.source) (N b.source) a.stops b.stops at.i at.leg at.j ka kb);
-    }
+    subst (λ (vs : List (Visit g.row.A-Exact.Denot)). Sound K vs) (sym same) (joined_sound K (M a.source) (N b.source) a.stops b.stops at.i at.leg at.j ka kb)

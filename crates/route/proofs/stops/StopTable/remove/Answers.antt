@@ -1,4 +1,4 @@
-use Rattle.std.proofs.Common.{◌≡◌, List, vec_items, ◌-◌, ◌∙◌, ap}
+use Rattle.std.proofs.Common.{List, vec_items, ◌-◌, ◌∙◌, ap}
 use Rattle.std.specs.List.{remove}
 use Rattle.route.specs.declared.stop.Stop.{Stop}
 use Rattle.route.proofs.Alterations.{remove_altered}
