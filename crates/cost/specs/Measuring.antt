@@ -1,5 +1,5 @@
 -- Targets that count bytes. Assumes nothing.
-use Rattle.std.specs.Prelude.{◌≡◌, ℕ, ◌+◌, List, [], ◌++◌, length, refl}
+use Rattle.std.specs.Prelude.{◌≡◌, ℕ, ◌+◌, List, ◌++◌, length, refl}
 use Rattle.std.proofs.Common.{ap, arith, length-append}
 use Rattle.cost.specs.Targets.{TargetModel}
 use Rattle.cost.specs.declared.target.Measure.{Measure}
@@ -11,9 +11,6 @@ counted x xs = record { at = x.at + length xs; size = x.size }
 pub counted_joins : (x : Measure) (xs ys : List ℕ) → counted (counted x xs) ys ≡ counted x (xs ++ ys)
 counted_joins x xs ys = ap (λ (n : ℕ). record { at = n; size = x.size }) (omega (arith, length-append xs ys))
 
-pub counted_nothing : (x : Measure) → counted x [] ≡ x
-counted_nothing x = ap (λ (n : ℕ). record { at = n; size = x.size }) (omega arith)
-
 abbrev pub measuring : TargetModel Measure
 measuring = record {
   at = λ m. m.at;
@@ -21,6 +18,5 @@ measuring = record {
   after = counted;
   ends = λ x xs. refl;
   keeps = λ x xs. refl;
-  nothing = counted_nothing;
   joins = counted_joins;
 }

@@ -1,5 +1,5 @@
 -- What takes text, and what a put does to it. Assumes nothing.
-use Rattle.std.specs.Prelude.{◌≡◌, ℕ, ◌+◌, ◌<◌, ◌≤◌, List, [], ◌++◌, length, Some, None, Option}
+use Rattle.std.specs.Prelude.{◌≡◌, ℕ, ◌+◌, ◌<◌, ◌≤◌, List, ◌++◌, length, Some, None, Option}
 
 pub record TargetModel (T : Type 0) : Type 0 where
   -- the place after the bytes taken so far, and the place past which no byte fits
@@ -9,7 +9,6 @@ pub record TargetModel (T : Type 0) : Type 0 where
   pub after : T → List ℕ → T
   pub ends : (x : T) (xs : List ℕ) → at (after x xs) ≡ at x + length xs
   pub keeps : (x : T) (xs : List ℕ) → size (after x xs) ≡ size x
-  pub nothing : (x : T) → after x [] ≡ x
   -- one piece after another is taken as both in one
   pub joins : (x : T) (xs ys : List ℕ) → after (after x xs) ys ≡ after x (xs ++ ys)
 

@@ -20,9 +20,6 @@ put_append (x ∷ xs) ys buf i = put_append xs ys (slice_set buf i x) (i + 1) �
 pub wrote_keeps : (x : Writer) (xs : List ℕ) → length (wrote x xs).buf.now ≡ length x.buf.now
 wrote_keeps x xs = length_put xs x.buf.now x.at
 
-pub wrote_nothing : (x : Writer) → wrote x [] ≡ x
-wrote_nothing x = ap (λ (n : ℕ). record { buf = x.buf; at = n }) (omega arith)
-
 pub wrote_joins : (x : Writer) (xs ys : List ℕ) → wrote (wrote x xs) ys ≡ wrote x (xs ++ ys)
 wrote_joins x xs ys =
     ap (λ (n : ℕ). record { buf = (wrote (wrote x xs) ys).buf; at = n }) (omega (arith, length-append xs ys))
@@ -35,6 +32,5 @@ writing = record {
   after = wrote;
   ends = λ x xs. refl;
   keeps = wrote_keeps;
-  nothing = wrote_nothing;
   joins = wrote_joins;
 }

@@ -1,4 +1,4 @@
-pub mod Lengths
+mod Lengths
 mod Lawfully
-pub mod Stops
+mod Stops
 mod Told
