@@ -1,3 +1,4 @@
 pub mod Checks
 pub mod Proved
 mod Growing
+mod FactsLines

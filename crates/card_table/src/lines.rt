@@ -1,38 +1,20 @@
 ghost use Rattle.std.specs.Prelude.{◌≡◌, [], ◌∷◌, ◌++◌, IfOk, string_bytes, codes};
-ghost use Rattle.card_table.specs.Lines.{facts_text, facts_line, facts_lines, answer_line, answer_lines, card_text, least_text, least_pair_text};
+ghost use Rattle.card_table.specs.Lines.{facts_line, facts_lines, answer_line, answer_lines, card_text, least_text, least_pair_text};
 
 use reader::lines::refusal_line;
 use route::stop::{Facts, Refusal};
 use std::alloc::{AllocError, Global};
 
-fn put_facts(
-    heap: Global,
-    place: usize,
-    curve: u8,
-    leg: u16,
-    mark: u16,
-    minute: u16,
-) -> Result<String, AllocError>
-    ensures { IfOk result (λ s. string_bytes s ≡ facts_text place curve leg mark minute) }
-{
-    format!(in heap; "stop {place} curve {curve} leg {leg} mark {mark} minute {minute}\n")
-}
-
 // The line of the stop at a place.
+#[tactic(auto, using(crate::proofs::FactsLines::line_ended))]
 fn facts_line(heap: Global, place: usize, facts: &Facts) -> Result<String, AllocError>
     ensures { IfOk result (λ s. string_bytes s ≡ facts_line place facts.now) }
 {
-    put_facts(
-        heap,
-        place,
-        facts.curve,
-        facts.leg,
-        facts.mark,
-        facts.minute,
-    )
+    format!(in heap; "stop {place} {facts}\n")
 }
 
-fn facts_lines(heap: Global, facts: &[Facts]) -> Result<String, AllocError>
+// A line for each stop.
+pub fn facts_lines(heap: Global, facts: &[Facts]) -> Result<String, AllocError>
     ensures { IfOk result (λ s. string_bytes s ≡ facts_lines 1 facts.now) }
 {
     let mut text = String::new(heap);
@@ -64,7 +46,8 @@ fn answer_lines(heap: Global, answers: &[Result<(), Refusal>]) -> Result<String,
     Ok(text)
 }
 
-fn name_line(heap: Global, name: &str) -> Result<String, AllocError>
+// The first line of a card.
+pub fn name_line(heap: Global, name: &str) -> Result<String, AllocError>
     ensures { IfOk result (λ s. string_bytes s ≡ codes "card " ++ (name.now ++ (10 ∷ []))) }
 {
     format!(in heap; "card {name}\n")

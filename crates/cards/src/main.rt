@@ -3,12 +3,13 @@
 
 mod show;
 
+use card_table::lines::least_pair_line;
 use card_table::table::{card_rows, late_rows};
 use cost::amount::Amount;
 use route::card::Card;
 use route::run::whole_run;
 use route::stop::Splice;
-use show::{show_join, show_stops};
+use show::{show_least, show_stops};
 use source::due::{DueBook, DueRow};
 use source::pairing::Pairing;
 use std::alloc::{AllocError, Global};
@@ -28,9 +29,7 @@ fn book(heap: Global, rows: &[DueRow]) -> Result<DueBook, AllocError> {
 
 fn show_money(rt: &HostRuntime, name: &str, card: &Card<Amount>) -> anyhow::Result<()> {
     show_stops(rt, name, card.answers.as_slice(), card.facts.as_slice())?;
-    let least = card.least.units();
-    println!(rt; "least {least}")?;
-    Ok(())
+    show_least(rt, Ok(card.least))
 }
 
 // Cards 1 to 5 and 7: four splices, one after another, and the join of the third card with the fifth.
@@ -79,8 +78,7 @@ fn splices_and_join(rt: &HostRuntime) -> anyhow::Result<()> {
     )?;
     show_money(rt, "5", &end.second)?;
     println!(rt; "card 7")?;
-    show_join(rt, end.joined)?;
-    Ok(())
+    show_least(rt, end.joined)
 }
 
 // Card 6: a leg that the windows just bear, and one that they do not.
@@ -135,9 +133,9 @@ fn money_and_promise(rt: &HostRuntime) -> anyhow::Result<()> {
         promise.first.answers.as_slice(),
         promise.first.facts.as_slice(),
     )?;
-    let late = promise.first.least.first.units();
-    let cost = promise.first.least.second.units();
-    println!(rt; "least {late} {cost}")?;
+    let least = promise.first.least;
+    let line = least_pair_line(heap, least.first.units(), least.second.units())?;
+    print!(rt; "{line}")?;
     Ok(())
 }
 

@@ -60,7 +60,7 @@ impl Cause {
         ensures { result ≡ stop_in self.now }
     {
         match self {
-            Cause::Route(Refusal::NoTimetable { stop }) => Some(*stop),
+            Cause::Route(refusal) => refusal.stop(),
             _ => None,
         }
     }

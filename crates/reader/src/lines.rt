@@ -1,21 +1,11 @@
 ghost use Rattle.std.specs.Prelude.{◌≡◌, Some, IfOk, string_bytes};
-ghost use Rattle.reader.specs.FaultLine.{stop_of, fault_words, fault_line, refusal_text, refusal_line};
+ghost use Rattle.reader.specs.FaultLine.{fault_words, fault_line, refusal_line};
 
 use crate::faults::Fault;
 use route::stop::Refusal;
 use std::alloc::{AllocError, Global};
 use std::fmt;
 use std::fmt::{Display, Formatter, Write};
-
-// The stop that a refusal names.
-fn stop_of(refusal: Refusal) -> Option<usize>
-    ensures { result ≡ stop_of refusal }
-{
-    match refusal {
-        Refusal::NoTimetable { stop } => Some(stop),
-        Refusal::Place | Refusal::Full | Refusal::Curve | Refusal::Leg => None,
-    }
-}
 
 // The words of a fault: its number, the byte where its record began, and the stop if one is named.
 impl Display for Fault {
@@ -30,15 +20,6 @@ impl Display for Fault {
     }
 }
 
-fn put_refusal(heap: Global, number: u8, stop: Option<usize>) -> Result<String, AllocError>
-    ensures { IfOk result (λ s. string_bytes s ≡ refusal_text number stop) }
-{
-    match stop {
-        Some(stop) => format!(in heap; "fault {number} stop {stop}\n"),
-        None => format!(in heap; "fault {number}\n"),
-    }
-}
-
 // The line of a fault.
 #[tactic(auto, using(crate::proofs::Words::words_ended))]
 pub fn fault_line(heap: Global, fault: Fault) -> Result<String, AllocError>
@@ -48,8 +29,9 @@ pub fn fault_line(heap: Global, fault: Fault) -> Result<String, AllocError>
 }
 
 // The line of a refusal of a call that stands in no strip.
+#[tactic(auto, using(crate::proofs::Words::refusal_ended))]
 pub fn refusal_line(heap: Global, refusal: Refusal) -> Result<String, AllocError>
     ensures { IfOk result (λ s. string_bytes s ≡ refusal_line refusal) }
 {
-    put_refusal(heap, refusal.number(), stop_of(refusal))
+    format!(in heap; "fault {refusal}\n")
 }

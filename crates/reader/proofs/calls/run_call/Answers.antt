@@ -1,4 +1,4 @@
-use Rattle.std.proofs.Common.{vec_items, Ok, Err, refl, ap, ◌∙◌}
+use Rattle.std.proofs.Common.{Ok, Err, refl, ap, ◌∙◌}
 use Rattle.std.proofs.lemmas.Result.{err_from_is_err_and}
 use Rattle.reader.specs.declared.faults.Fault.{Fault}
 use Rattle.reader.proofs.Running.{wrong_ran, refused_ran, accepted_ran}
