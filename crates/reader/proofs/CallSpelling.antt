@@ -42,7 +42,7 @@ same_form : (f g : Form) → Some f ≡ Some g → f ≡ g
 same_form f g e = cc
 
 no_form : (g : Form) → None ≡ Some g → ⊥
-no_form g e = let z : ◌≡◌ {A = ℕ} 0 1 = cc in omega arith
+no_form g e = cc
 
 form_bits : (c i o t : Bool) (form : Form) → form_by c i o t ≡ Some form → Bits form c i o t
 form_bits true i o false form e = subst (λ (f : Form). Bits f true i o false) (same_form Inserting form e) (refl, refl)
@@ -120,7 +120,7 @@ taken bytes map at n form inside is clear bits curve leg_in leg_out place within
 
 taken_by : (bytes : List ℕ) (at n : ℕ) (call : Splice) (next : ℕ) (o : Option Form) → at < length bytes → form_of (get_or bytes at 0) ≡ o
     → call_by bytes (get_or bytes at 0) at n o ≡ Ok (call, next) → TakenCall bytes at n call next
-taken_by bytes at n call next None inside has e = let z : ◌≡◌ {A = ℕ} 0 1 = cc in absurd (omega arith)
+taken_by bytes at n call next None inside has e = cc
 taken_by bytes at n call next (Some form) inside has e =
     let map : ℕ = get_or bytes at 0 in
     let opened = opens (eqb (map / 32) 0) (form_by (stands map 0) (stands map 1) (stands map 2) (stands map 4)) form has in
