@@ -170,14 +170,12 @@ call_found bytes at n call front rest cut s =
     let same : splice_at bytes map at n form ≡ call = (λ i. splice_of form (curve.read i) (leg_in.read i) (leg_out.read i) (place.read i)) ∙ sym s.is in
     let there : at + length front ≡ next_call map at = after_at bytes front rest at (next_call map at) cut place.after (omega arith) place.within in
     let got : call_at bytes at n ≡ Ok (splice_at bytes map at n form, next_call map at) = read_ok bytes at n map form start.1 start.0 has place.within in
-    got ∙ (ap (λ (c : Splice). Ok (c, next_call map at)) same ∙ ap (λ k. Ok (call, k)) (sym there))
+    let read : call_at bytes at n ≡ Ok (call, next_call map at) = rw same at got in
+    rw there read
 
 -- a record that is refused is no call
 pub call_none : (bytes : List ℕ) (at n : ℕ) (why : Cause) → call_at bytes at n ≡ Err why → NoCall n (drop at bytes)
-call_none bytes at n why e call front back cut spelled =
-    let f = call_found bytes at n call front back cut spelled in
-    let z : ◌≡◌ {A = ℕ} 0 1 = cc in
-    omega arith
+call_none bytes at n why e call front back cut spelled = cc (e, call_found bytes at n call front back cut spelled)
 
 pub reads_calls : (bytes : List ℕ) → ReadsCalls bytes
 reads_calls bytes at n = record {

@@ -14,7 +14,7 @@ use Rattle.reader.specs.Reading.{row_count, rows_from, end_from, rows_answer, ro
 use Rattle.reader.specs.Spelling.{Rows}
 use Rattle.reader.specs.Exactly.{Holds, HoldsNone, Stops, ReadsExactly}
 use Rattle.reader.proofs.Tables.{past_by, rows_by, end_by, rows_after, end_after, front_read}
-use Rattle.reader.proofs.Spelling.{passes, Taken, record_taken, record_found}
+use Rattle.reader.proofs.Spelling.{passes, same_ok, Taken, record_taken, record_found}
 
 -- the rows that are read from a byte on, up to another, are spelled between the two
 pub record Between (bytes : List ℕ) (rows : List DueRow) (at next : ℕ) : Type 0 where
@@ -260,9 +260,7 @@ holds_answer bytes rows calls h =
     ap (strip_by bytes) read.0 ∙ ap (λ (l : List DueRow). Ok (l, calls)) read.1
 
 pub holds_one : (bytes : List ℕ) (rows held : List DueRow) (calls at : ℕ) → Holds bytes rows calls → Holds bytes held at → (held ≡ rows) × (at ≡ calls)
-holds_one bytes rows held calls at h k =
-    let same : ◌≡◌ {A = List DueRow × ℕ} (held, at) (rows, calls) = cc (holds_answer bytes rows calls h, holds_answer bytes held at k) in
-    (ap (λ (x : List DueRow × ℕ). x.0) same, ap (λ (x : List DueRow × ℕ). x.1) same)
+holds_one bytes rows held calls at h k = same_ok held rows at calls (sym (holds_answer bytes held at k) ∙ holds_answer bytes rows calls h)
 
 pub holds_none : (bytes : List ℕ) (f : Fault) → Err f ≡ rows_answer bytes 64 → HoldsNone bytes
 holds_none bytes f read rows calls h = cc (read, (held_read bytes rows calls 64 h h.few).0)

@@ -15,6 +15,7 @@ use Rattle.reader.specs.declared.calls.Progress.{Progress}
 use Rattle.reader.specs.Running.{fault_of, advanced, Call, Calls}
 use Rattle.reader.specs.Running.Call.{wrong, refused, accepted}
 use Rattle.reader.specs.Running.Calls.{past, ended, faulty, onward}
+use Rattle.reader.proofs.Spelling.{same_ok}
 
 module _ {E F : Type 0} (K : Algebra E) (L : Algebra F) (m : Meaning E) (n : Meaning F) (same : SameWindows m n) (bytes : List ℕ) where
   call_same : (here : Progress) (ps : List Plain) (r : Result Progress Fault) (qs : List Plain) → Call K m bytes here ps r qs → Call L n bytes here ps r qs
@@ -28,12 +29,6 @@ module _ {E F : Type 0} (K : Algebra E) (L : Algebra F) (m : Meaning E) (n : Mea
   calls_same here ps r qs (faulty a b c f h call) = faulty a b c f h (call_same a b (Err f) c call)
   calls_same here ps r qs (onward a there b mid c d h call rest) = onward a there b mid c d h (call_same a b (Ok there) mid call) (calls_same there mid d c rest)
 
--- the parts of a record that was read
-same_read : (s t : Splice) (i j : ℕ) → ◌≡◌ {A = Result (Splice × ℕ) Cause} (Ok (s, i)) (Ok (t, j)) → (s ≡ t) × (i ≡ j)
-same_read s t i j e =
-    let w : ◌≡◌ {A = Splice × ℕ} (s, i) (t, j) = cc in
-    (ap (λ (x : Splice × ℕ). x.0) w, ap (λ (x : Splice × ℕ). x.1) w)
-
 module _ {E : Type 0} (K : Algebra E) (m : Meaning E) (bytes : List ℕ) where
   judged_alike : (ps qs us : List Plain) (s t : Splice) (a b : Answer) → s ≡ t → Judged K m ps s a qs → Judged K m ps t b us → (a ≡ b) × (qs ≡ us)
   judged_alike ps qs us s t a b e j k = judged_one K m ps qs us t a b (subst (λ (x : Splice). Judged K m ps x a qs) e j) k
@@ -46,21 +41,21 @@ module _ {E : Type 0} (K : Algebra E) (m : Meaning E) (bytes : List ℕ) where
   call_one here ps r t qs us (wrong why e) (accepted s next mid d k) = cc
   call_one here ps r t qs us (refused s next because e j) (wrong why d) = cc
   call_one here ps r t qs us (refused s next because e j) (refused s' next' because' d k) =
-      let same = same_read s s' next next' (sym e ∙ d) in
+      let same = same_ok s s' next next' (sym e ∙ d) in
       let w = judged_alike ps ps ps s s' (Err because) (Err because') same.0 j k in
       let z : because ≡ because' = cc (w.0) in
       (ap (λ (x : Refusal). Err (fault_of here (Route x))) z, refl)
   call_one here ps r t qs us (refused s next because e j) (accepted s' next' mid d k) =
-      let same = same_read s s' next next' (sym e ∙ d) in
+      let same = same_ok s s' next next' (sym e ∙ d) in
       let w = judged_alike ps ps mid s s' (Err because) (Ok tt) same.0 j k in
       cc (w.0)
   call_one here ps r t qs us (accepted s next mid e j) (wrong why d) = cc
   call_one here ps r t qs us (accepted s next mid e j) (refused s' next' because d k) =
-      let same = same_read s s' next next' (sym e ∙ d) in
+      let same = same_ok s s' next next' (sym e ∙ d) in
       let w = judged_alike ps mid ps s s' (Ok tt) (Err because) same.0 j k in
       cc (w.0)
   call_one here ps r t qs us (accepted s next mid e j) (accepted s' next' mid' d k) =
-      let same = same_read s s' next next' (sym e ∙ d) in
+      let same = same_ok s s' next next' (sym e ∙ d) in
       let w = judged_alike ps mid mid' s s' (Ok tt) (Ok tt) same.0 j k in
       (ap (λ (x : ℕ). Ok (advanced here x)) same.1, w.1)
 
