@@ -61,12 +61,12 @@ module _ {E : Type 0} (K : Algebra E) (m : Meaning E) (bytes : List ℕ) where
   fault_further here ps x qs f (refused s next why e j) is =
       let same : fault_of here (Route why) ≡ f = cc in
       subst (λ (y : Fault). Further here ps (Err y) ps) same (record { more = 0; counted = sym (add-zero here.count); splices = s ∷ []; runs = (ps, j, refl) })
-  fault_further here ps x qs f (accepted s next mid e j) is = let z : ◌≡◌ {A = ℕ} 0 1 = cc in absurd (omega arith)
+  fault_further here ps x qs f (accepted s next mid e j) is = cc
 
   more_further : (here there : Progress) (ps mid : List Plain) (x : Result Progress Fault) (r : Result ℕ Fault) (qs : List Plain) → Call K m bytes here ps x mid → x ≡ Ok there
       → Further there mid r qs → Further here ps r qs
-  more_further here there ps mid x r qs (wrong why e) is rest = let z : ◌≡◌ {A = ℕ} 0 1 = cc in absurd (omega arith)
-  more_further here there ps mid x r qs (refused s next why e j) is rest = let z : ◌≡◌ {A = ℕ} 0 1 = cc in absurd (omega arith)
+  more_further here there ps mid x r qs (wrong why e) is rest = cc
+  more_further here there ps mid x r qs (refused s next why e j) is rest = cc
   more_further here there ps mid x r qs (accepted s next at e j) is rest =
       let same : there.count ≡ here.count + 1 = ap (λ (p : Progress). p.count) (let q : there ≡ advanced here next = cc in q) in
       record { more = suc rest.more; counted = omega (arith, rest.counted); splices = s ∷ rest.splices; runs = (mid, j, rest.runs) }
@@ -115,12 +115,12 @@ module _ {E : Type 0} (K : Algebra E) (m : Meaning E) (bytes : List ℕ) where
       let t = call_taken bytes here.byte (length ps) s next e in
       subst (λ (y : Fault). Spelt here ps (Err y) ps) same
       (nothing here ps (fault_of here (Route why)) refl refl (record { call = s; front = t.front; back = drop next bytes; written = t.cut; spelled = t.spelled; judged = j }))
-  fault_spelt here ps x qs f (accepted s next mid e j) is = let z : ◌≡◌ {A = ℕ} 0 1 = cc in absurd (omega arith)
+  fault_spelt here ps x qs f (accepted s next mid e j) is = cc
 
   more_spelt : (here there : Progress) (ps mid : List Plain) (x : Result Progress Fault) (r : Result ℕ Fault) (qs : List Plain) → Call K m bytes here ps x mid → x ≡ Ok there
       → Spelt there mid r qs → Spelt here ps r qs
-  more_spelt here there ps mid x r qs (wrong why e) is rest = let z : ◌≡◌ {A = ℕ} 0 1 = cc in absurd (omega arith)
-  more_spelt here there ps mid x r qs (refused s next why e j) is rest = let z : ◌≡◌ {A = ℕ} 0 1 = cc in absurd (omega arith)
+  more_spelt here there ps mid x r qs (wrong why e) is rest = cc
+  more_spelt here there ps mid x r qs (refused s next why e j) is rest = cc
   more_spelt here there ps mid x r qs (accepted s next at e j) is rest =
       let same : there ≡ advanced here next = cc in
       let t = call_taken bytes here.byte (length ps) s next e in

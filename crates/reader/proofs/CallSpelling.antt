@@ -42,7 +42,7 @@ same_form : (f g : Form) → Some f ≡ Some g → f ≡ g
 same_form f g e = cc
 
 no_form : (g : Form) → None ≡ Some g → ⊥
-no_form g e = let z : ◌≡◌ {A = ℕ} 0 1 = cc in omega arith
+no_form g e = cc
 
 form_bits : (c i o t : Bool) (form : Form) → form_by c i o t ≡ Some form → Bits form c i o t
 form_bits true i o false form e = subst (λ (f : Form). Bits f true i o false) (same_form Inserting form e) (refl, refl)
@@ -120,7 +120,7 @@ taken bytes map at n form inside is clear bits curve leg_in leg_out place within
 
 taken_by : (bytes : List ℕ) (at n : ℕ) (call : Splice) (next : ℕ) (o : Option Form) → at < length bytes → form_of (get_or bytes at 0) ≡ o
     → call_by bytes (get_or bytes at 0) at n o ≡ Ok (call, next) → TakenCall bytes at n call next
-taken_by bytes at n call next None inside has e = let z : ◌≡◌ {A = ℕ} 0 1 = cc in absurd (omega arith)
+taken_by bytes at n call next None inside has e = cc
 taken_by bytes at n call next (Some form) inside has e =
     let map : ℕ = get_or bytes at 0 in
     let opened = opens (eqb (map / 32) 0) (form_by (stands map 0) (stands map 1) (stands map 2) (stands map 4)) form has in
@@ -170,14 +170,12 @@ call_found bytes at n call front rest cut s =
     let same : splice_at bytes map at n form ≡ call = (λ i. splice_of form (curve.read i) (leg_in.read i) (leg_out.read i) (place.read i)) ∙ sym s.is in
     let there : at + length front ≡ next_call map at = after_at bytes front rest at (next_call map at) cut place.after (omega arith) place.within in
     let got : call_at bytes at n ≡ Ok (splice_at bytes map at n form, next_call map at) = read_ok bytes at n map form start.1 start.0 has place.within in
-    got ∙ (ap (λ (c : Splice). Ok (c, next_call map at)) same ∙ ap (λ k. Ok (call, k)) (sym there))
+    let read : call_at bytes at n ≡ Ok (call, next_call map at) = rw same at got in
+    rw there read
 
 -- a record that is refused is no call
 pub call_none : (bytes : List ℕ) (at n : ℕ) (why : Cause) → call_at bytes at n ≡ Err why → NoCall n (drop at bytes)
-call_none bytes at n why e call front back cut spelled =
-    let f = call_found bytes at n call front back cut spelled in
-    let z : ◌≡◌ {A = ℕ} 0 1 = cc in
-    omega arith
+call_none bytes at n why e call front back cut spelled = cc (e, call_found bytes at n call front back cut spelled)
 
 pub reads_calls : (bytes : List ℕ) → ReadsCalls bytes
 reads_calls bytes at n = record {

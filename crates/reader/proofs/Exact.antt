@@ -14,7 +14,7 @@ use Rattle.reader.specs.Reading.{row_count, rows_from, end_from, rows_answer, ro
 use Rattle.reader.specs.Spelling.{Rows}
 use Rattle.reader.specs.Exactly.{Holds, HoldsNone, Stops, ReadsExactly}
 use Rattle.reader.proofs.Tables.{past_by, rows_by, end_by, rows_after, end_after, front_read}
-use Rattle.reader.proofs.Spelling.{passes, Taken, record_taken, record_found}
+use Rattle.reader.proofs.Spelling.{passes, same_ok, Taken, record_taken, record_found}
 
 -- the rows that are read from a byte on, up to another, are spelled between the two
 pub record Between (bytes : List ℕ) (rows : List DueRow) (at next : ℕ) : Type 0 where
@@ -152,7 +152,7 @@ accepted_by bytes before n rows got c end =
     (rows, holds_by bytes (length before) n rows got c end, omega (arith, long, all), omega (arith, long, c.fits), refl)
 
 -- rows that a strip holds are read where there is room for them
-held_read : (bytes : List ℕ) (rows : List DueRow) (calls room : ℕ) → Holds bytes rows calls → length rows ≤ room
+pub held_read : (bytes : List ℕ) (rows : List DueRow) (calls room : ℕ) → Holds bytes rows calls → length rows ≤ room
     → (rows_answer bytes room ≡ Ok (record { rows = length rows; calls = calls })) × (rows_of bytes room ≡ rows)
 held_read bytes rows calls room h fits =
     let count : row_count bytes room ≡ Ok (length rows) = counts bytes room (length rows) (held_count bytes rows calls room h fits) in
@@ -173,8 +173,7 @@ stops_by bytes before n rows fault c (short, all, b, wrong) = record {
   more = short;
   none = λ row front back cut spelled lawful.
       let read = (record_found bytes fault.byte row front back cut spelled lawful).0 in
-      let no : ◌≡◌ {A = ℕ} 0 1 = cc (read, wrong) in
-      omega arith;
+      cc (read, wrong);
   counted = omega (arith, all);
   place = b.place;
 }
@@ -200,8 +199,8 @@ exact_refused : (bytes : List ℕ) (before : List DueRow) (f : Fault) → row_co
 exact_refused bytes before f e =
     let k : ℕ = get_or bytes 0 0 in
     record {
-      accepted = λ got ok. absurd (let no : ◌≡◌ {A = ℕ} 0 1 = cc in omega arith);
-      accepts = λ held calls h fits. absurd (let no : ◌≡◌ {A = ℕ} 0 1 = cc (e, counts bytes (length before) (length held) (held_count bytes held calls (length before) h fits)) in omega arith);
+      accepted = λ got ok. cc;
+      accepts = λ held calls h fits. cc (e, counts bytes (length before) (length held) (held_count bytes held calls (length before) h fits));
       refused = λ fault err. inl (subst (λ (g : Fault). g ≡ at_start g.cause) (cc) (whole (eqb (length bytes) 0) (ltb 4096 (length bytes) || ltb 64 k) (ltb (length before) k) k f e), refl);
     }
 
@@ -261,19 +260,10 @@ holds_answer bytes rows calls h =
     ap (strip_by bytes) read.0 ∙ ap (λ (l : List DueRow). Ok (l, calls)) read.1
 
 pub holds_one : (bytes : List ℕ) (rows held : List DueRow) (calls at : ℕ) → Holds bytes rows calls → Holds bytes held at → (held ≡ rows) × (at ≡ calls)
-holds_one bytes rows held calls at h k =
-    let same : ◌≡◌ {A = List DueRow × ℕ} (held, at) (rows, calls) = cc (holds_answer bytes rows calls h, holds_answer bytes held at k) in
-    (ap (λ (x : List DueRow × ℕ). x.0) same, ap (λ (x : List DueRow × ℕ). x.1) same)
+holds_one bytes rows held calls at h k = same_ok held rows at calls (sym (holds_answer bytes held at k) ∙ holds_answer bytes rows calls h)
 
-pub fault_answer : (bytes : List ℕ) (f : Fault) → Err f ≡ rows_answer bytes 64 → strip_answer bytes ≡ Err f
-unfolding strip_answer
-fault_answer bytes f read = ap (strip_by bytes) (sym read)
-
-pub fault_none : (bytes : List ℕ) (f : Fault) → strip_answer bytes ≡ Err f → HoldsNone bytes
-fault_none bytes f read rows calls h =
-    let again = holds_answer bytes rows calls h in
-    let no : ◌≡◌ {A = ℕ} 0 1 = cc (read, again) in
-    omega arith
+pub holds_none : (bytes : List ℕ) (f : Fault) → Err f ≡ rows_answer bytes 64 → HoldsNone bytes
+holds_none bytes f read rows calls h = cc (read, (held_read bytes rows calls 64 h h.few).0)
 
 -- the rows at the front of a table into which a strip was read
 pub front_holds : (bytes : List ℕ) (before after rows : List DueRow) (got : RowsRead) (calls : ℕ) → ReadsExactly bytes before after (Ok got) → got.calls ≡ calls

@@ -1,7 +1,7 @@
 mod Bits
 mod Tables
 mod Spelling
-mod Exact
+pub mod Exact
 mod CallSpelling
 mod Words
 mod CallRuns

@@ -87,8 +87,8 @@ pub record Further (bytes : List ℕ) (here there : Progress) : Type 0 where
 module _ {E : Type 0} (K : Algebra E) (m : Meaning E) (bytes : List ℕ) where
   further : (here : Progress) (ps : List Plain) (r : Result Progress Fault) (qs : List Plain) (there : Progress) → Call K m bytes here ps r qs → r ≡ Ok there
       → Further bytes here there
-  further here ps r qs there (wrong why e) is = let z : ◌≡◌ {A = ℕ} 0 1 = cc in absurd (omega arith)
-  further here ps r qs there (refused s next why e j) is = let z : ◌≡◌ {A = ℕ} 0 1 = cc in absurd (omega arith)
+  further here ps r qs there (wrong why e) is = cc
+  further here ps r qs there (refused s next why e j) is = cc
   further here ps r qs there (accepted s next mid e j) is =
       let t = call_taken bytes here.byte (length ps) s next e in
       let same : advanced here next ≡ there = cc in
@@ -97,7 +97,7 @@ module _ {E : Type 0} (K : Algebra E) (m : Meaning E) (bytes : List ℕ) where
   fault_counted : (here : Progress) (ps : List Plain) (r : Result Progress Fault) (qs : List Plain) (f : Fault) → Call K m bytes here ps r qs → r ≡ Err f → f.count ≡ here.count
   fault_counted here ps r qs f (wrong why e) is = let same : f ≡ fault_of here why = cc in ap (λ (x : Fault). x.count) same
   fault_counted here ps r qs f (refused s next why e j) is = let same : f ≡ fault_of here (Route why) = cc in ap (λ (x : Fault). x.count) same
-  fault_counted here ps r qs f (accepted s next mid e j) is = let z : ◌≡◌ {A = ℕ} 0 1 = cc in absurd (omega arith)
+  fault_counted here ps r qs f (accepted s next mid e j) is = cc
 
   module _ (at : ℕ) (before : List Stop) (here : Progress) (ss ts : List Stop) (r : Result Progress Fault) (on : Onward K m bytes at before here ss) (call : CallRan K m bytes here ss r ts) where
     pub turn_further : (there : Progress) → r ≡ Ok there → Further bytes here there

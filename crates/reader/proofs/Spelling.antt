@@ -172,4 +172,5 @@ record_found bytes at row front rest cut spelled lawful =
     let place : at + length front ≡ next_record map at = after_at bytes front rest at (next_record map at) cut late.after (omega arith) late.within in
     let law : row_lawful (row_at bytes map at) ≡ true = ap row_lawful same ∙ lawful in
     let got : record_at bytes at ≡ Ok (row_at bytes map at, next_record map at) = read_ok bytes at map begin.1 begin.0 spelled.clear late.within law in
-    (got ∙ (ap (λ (r : DueRow). Ok (r, next_record map at)) same ∙ ap (λ n. Ok (row, n)) (sym place)), ap (λ n. drop n bytes) place ∙ late.after)
+    let read : record_at bytes at ≡ Ok (row, next_record map at) = rw same at got in
+    (rw place read, rw place late.after)

@@ -20,6 +20,7 @@ pub record Past (n bit : ℕ) (old new : Record) : Type 0 where
 abbrev pub Cut : ℕ → ℕ → Record → Cause → Type 0
 Cut n bit old why = (length old.strip.now < old.next + cond (stands old.map bit) n 0) × (why ≡ CutOff)
 
+-- the field of a bit is taken: its n bytes, or none where the bit does not stand
 abbrev pub Takes : ℕ → ℕ → Record → Result (Option (List ℕ)) Cause → Record → Type 0
 Takes n bit old (Ok o) new = (o ≡ cond (stands old.map bit) (Some (take n (drop old.next old.strip.now))) None) × Past n bit old new
 Takes n bit old (Err why) new = Cut n bit old why

@@ -1,4 +1,4 @@
-ghost use Rattle.std.specs.Prelude.{◌≡◌, ◌+◌, ◌<◌, ◌≤◌, length, slice_index, MatchResult};
+ghost use Rattle.std.specs.Prelude.{◌≡◌, ◌≤◌, length};
 ghost use Rattle.reader.specs.Records.{stands};
 
 use crate::faults::Cause;
@@ -13,7 +13,7 @@ pub(crate) fn is_set(map: u8, bit: u32) -> bool
 
 // A record of a strip: a map byte, and then a field for each of its bits that stands, in the order of the bits. The
 // fields are taken one after another.
-#[derive(Clone, Copy)]
+#[derive(Drop)]
 pub(crate) struct Record<'a> {
     strip: &'a [u8],
     pub(crate) map: u8,

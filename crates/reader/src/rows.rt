@@ -8,9 +8,10 @@ use source::due::DueRow;
 
 const LONGEST: usize = 4096;
 
-const MOST_ROWS: u8 = 64;
+const MOST_ROWS: usize = 64;
 
-// How many rows a strip has, and the byte, counted from 0, where its calls begin.
+// How many rows a strip has, and the byte, counted from 0, where its calls begin. The rows stand in a table that is
+// lent, so that reading them wants no memory.
 #[derive(Clone, Copy, PartialEq, Eq, Debug)]
 pub struct RowsRead {
     pub rows: usize,
@@ -21,14 +22,14 @@ pub struct RowsRead {
 fn row_count(strip: &[u8], room: usize) -> Result<usize, Fault>
     ensures { result ≡ row_count strip.now room }
 {
-    let count = *strip.first().ok_or(Cause::CutOff.at_start())?;
+    let count = usize::from(*strip.first().ok_or(Cause::CutOff.at_start())?);
     if strip.len() > LONGEST || count > MOST_ROWS {
         return Err(Cause::TooLarge.at_start());
     }
-    if room < count as usize {
+    if room < count {
         return Err(Cause::NoRoom.at_start());
     }
-    Ok(count as usize)
+    Ok(count)
 }
 
 // Reads the record at a byte, so many rows having been read before it, into an entry of the table, and answers where the

@@ -1,5 +1,5 @@
 ghost use Rattle.std.specs.Prelude.{◌≡◌, Ok};
-ghost use Rattle.reader.specs.Reading.{strip_answer};
+ghost use Rattle.reader.specs.Reading.{rows_answer, strip_answer};
 
 use crate::faults::Fault;
 use crate::rows::{RowsRead, read_rows};
@@ -28,11 +28,11 @@ impl<'a> Strip<'a> {
     }
 
     // Reads a strip's rows, or tells its fault.
-    #[tactic(auto, using(crate::proofs::Exact::front_holds, crate::proofs::Exact::fault_answer, crate::proofs::Exact::fault_none))]
+    #[tactic(auto, using(crate::proofs::Exact::front_holds, crate::proofs::Exact::holds_none))]
     pub fn read(heap: Global, bytes: &'a [u8]) -> Result<Result<Strip<'a>, Fault>, AllocError>
         ensures same { IfOk result (λ r. IfOk r (λ strip. strip.bytes.now ≡ bytes.now)) }
         ensures rows { IfOk result (λ r. IfOk r (λ strip. Holds bytes.now strip.rows.items strip.calls)) }
-        ensures fault { IfOk result (λ r. IfErr r (λ fault. strip_answer bytes.now ≡ Err fault)) }
+        ensures fault { IfOk result (λ r. IfErr r (λ fault. rows_answer bytes.now 64 ≡ Err fault)) }
         ensures none { IfOk result (λ r. IfErr r (λ _. HoldsNone bytes.now)) }
     {
         let mut table = [DueRow::default(); 64];
