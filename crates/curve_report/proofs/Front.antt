@@ -4,8 +4,8 @@ use Rattle.source.specs.declared.due.DueRow.{DueRow}
 use Rattle.reader.specs.declared.faults.Fault.{Fault}
 use Rattle.reader.specs.declared.rows.RowsRead.{RowsRead}
 use Rattle.reader.specs.FaultLine.{fault_line}
-use Rattle.reader.specs.Reading.{strip_answer}
-use Rattle.reader.proofs.Fronts.{front, fault_read}
+use Rattle.reader.specs.Reading.{rows_answer, strip_answer}
+use Rattle.reader.proofs.Fronts.{front}
 use Rattle.curve_report.specs.Lines.{EachOpen, RowsText}
 use Rattle.curve_report.specs.Printed.{PrintedBy, PrintsOnly}
 use Rattle.curve_report.proofs.Open.{each_open}
@@ -29,9 +29,9 @@ printed_rows strip rows calls text read lines =
           same_text rows (length rows) other text (subst (λ (l : List DueRow). RowsText l (length l) other) same theirs) lines;
     }
 
-pub printed_fault : (strip : List ℕ) (f : Fault) (text : List ℕ) → strip_answer strip ≡ Err f → text ≡ fault_line f → PrintsOnly strip text
+pub printed_fault : (strip : List ℕ) (f : Fault) (text : List ℕ) → rows_answer strip 64 ≡ Err f → text ≡ fault_line f → PrintsOnly strip text
 printed_fault strip f text read is =
-    let answer = fault_read strip f read in
+    let answer : Err f ≡ rows_answer strip 64 = sym read in
     record {
       printed = subst (λ (r : Result RowsRead Fault). PrintedBy strip r text) answer is;
       only = λ other p. subst (λ (r : Result RowsRead Fault). PrintedBy strip r other) (sym answer) p ∙ sym is;

@@ -29,11 +29,3 @@ front bytes rows calls e =
     let (got, read, place) = read_by bytes rows calls (rows_answer bytes 64) e in
     let holds = subst (λ (n : ℕ). Holds bytes rows n) (sym place) (answer_holds bytes rows calls e) in
     (got, read, place, record { holds = holds; alone = λ held h. (holds_one bytes rows held got.calls got.calls holds h).0 })
-
-fault_by : (bytes : List ℕ) (f : Fault) (r : Result RowsRead Fault) → strip_by bytes r ≡ Err f → Err f ≡ r
-fault_by bytes f (Ok got) e = cc
-fault_by bytes f (Err g) e = let same : g ≡ f = cc in ap (λ (x : Fault). Err x) (sym same)
-
-pub fault_read : (bytes : List ℕ) (f : Fault) → strip_answer bytes ≡ Err f → Err f ≡ rows_answer bytes 64
-unfolding strip_answer
-fault_read bytes f e = fault_by bytes f (rows_answer bytes 64) e

@@ -35,6 +35,7 @@ impl<'a> Strip<'a> {
         ensures fault { IfOk result (λ r. IfErr r (λ fault. rows_answer bytes.now 64 ≡ Err fault)) }
         ensures none { IfOk result (λ r. IfErr r (λ _. HoldsNone bytes.now)) }
     {
+        // Kept: `read_rows` fills a table that is lent, so that it wants no memory.
         let mut table = [DueRow::default(); 64];
         match read_rows(bytes, &mut table) {
             Ok(RowsRead { rows, calls }) => {

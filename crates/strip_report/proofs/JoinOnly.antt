@@ -14,7 +14,7 @@ use Rattle.reader.specs.declared.faults.Fault.{Fault}
 use Rattle.reader.specs.FaultLine.{fault_line}
 use Rattle.reader.specs.declared.rows.RowsRead.{RowsRead}
 use Rattle.reader.specs.Reading.{rows_answer, strip_answer}
-use Rattle.reader.proofs.Fronts.{Front, front, fault_read}
+use Rattle.reader.proofs.Fronts.{Front, front}
 use Rattle.strip_report.specs.Shown.{StripReport}
 use Rattle.strip_report.specs.Joined.{stops_of, join_lines, join_text, JoinReports, JoinPrintedBy, JoinPrintsOnly}
 use Rattle.strip_report.proofs.Only.{report_one}
@@ -123,11 +123,11 @@ module _ (strip : List ℕ) (i leg : ℕ) (other : List ℕ) (j : ℕ) (text : L
   fault_by : (f : Fault) (s : Result RowsRead Fault) (t : List ℕ) → t ≡ fault_line f → By (Err f) s t
   fault_by f s t is = is
 
-  pub first_fault : (f : Fault) → strip_answer strip ≡ Err f → text ≡ fault_line f → JoinPrintsOnly strip i leg other j text
-  first_fault f read is = by_answers (Err f) (rows_answer other 64) (fault_read strip f read) refl (fault_by f (rows_answer other 64) text is) (λ t p. p ∙ sym is)
+  pub first_fault : (f : Fault) → rows_answer strip 64 ≡ Err f → text ≡ fault_line f → JoinPrintsOnly strip i leg other j text
+  first_fault f read is = by_answers (Err f) (rows_answer other 64) (sym read) refl (fault_by f (rows_answer other 64) text is) (λ t p. p ∙ sym is)
 
   -- the fault in the rows of the second, where those of the first are lawful
-  pub second_fault : (rows : List DueRow) (calls : ℕ) (f : Fault) → strip_answer strip ≡ Ok (rows, calls) → strip_answer other ≡ Err f → text ≡ fault_line f → JoinPrintsOnly strip i leg other j text
+  pub second_fault : (rows : List DueRow) (calls : ℕ) (f : Fault) → strip_answer strip ≡ Ok (rows, calls) → rows_answer other 64 ≡ Err f → text ≡ fault_line f → JoinPrintsOnly strip i leg other j text
   second_fault rows calls f held read is =
       let (got, e, place, front_rows) = front strip rows calls held in
-      by_answers (Ok got) (Err f) e (fault_read other f read) is (λ t p. p ∙ sym is)
+      by_answers (Ok got) (Err f) e (sym read) is (λ t p. p ∙ sym is)

@@ -16,7 +16,7 @@ use Rattle.reader.specs.FaultLine.{fault_line}
 use Rattle.reader.specs.Reading.{rows_answer, strip_answer}
 use Rattle.reader.specs.Running.{begin}
 use Rattle.reader.specs.CallLaws.{answers_in}
-use Rattle.reader.proofs.Fronts.{Front, front, fault_read}
+use Rattle.reader.proofs.Fronts.{Front, front}
 use Rattle.reader.proofs.SameCalls.{calls_same, calls_one}
 use Rattle.strip_report.specs.Shown.{StripReport}
 use Rattle.strip_report.specs.Printed.{promised, both, strip_text, Reports, PrintedBy, PrintsOnly, AllLawful}
@@ -72,9 +72,9 @@ printed_reports strip rows calls text held made =
     printed_by strip got rows text answer at_front (subst (λ (n : ℕ). Reports strip rows n text) (sym place) made)
 
 -- the fault in a strip's rows
-pub printed_fault : (strip : List ℕ) (f : Fault) (text : List ℕ) → strip_answer strip ≡ Err f → text ≡ fault_line f → PrintsOnly strip text
+pub printed_fault : (strip : List ℕ) (f : Fault) (text : List ℕ) → rows_answer strip 64 ≡ Err f → text ≡ fault_line f → PrintsOnly strip text
 printed_fault strip f text read is =
-    let answer = fault_read strip f read in
+    let answer : Err f ≡ rows_answer strip 64 = sym read in
     record {
       printed = subst (λ (r : Result RowsRead Fault). PrintedBy strip r text) answer is;
       only = λ other p. subst (λ (r : Result RowsRead Fault). PrintedBy strip r other) (sym answer) p ∙ sym is;
