@@ -4,6 +4,7 @@ use Rattle.std.proofs.lemmas.List.{length-map, length-append, length-take, lengt
 use Rattle.cost.specs.Algebra.{Algebra}
 use Rattle.source.specs.Meaning.{Meaning}
 use Rattle.timing.specs.Visits.{Visit}
+use Rattle.timing.specs.Marks.{Marks}
 use Rattle.timing.specs.Sound.{Sound}
 use Rattle.route.specs.declared.stop.Stop.{Stop}
 use Rattle.route.specs.declared.stop.Refusal.{Refusal}
@@ -16,6 +17,9 @@ use Rattle.route.specs.Judged.{Served}
 use Rattle.route.specs.Joins.{Least, joined, objection_to_join, JoinJudged, exactly, refused, blocked, accepted}
 use Rattle.route.proofs.Splices.{same_line}
 use Rattle.route.proofs.Soundness.{lawful_sound, sound_append}
+
+pub no_marks : {E : Type 0} (K : Algebra E) → Marks K [] []
+no_marks K = record { many = refl; each = λ i h. absurd (omega arith) }
 
 length_releg : (l : ℕ) (ps : List Plain) → length (releg l ps) ≡ length ps
 length_releg l [] = refl

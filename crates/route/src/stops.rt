@@ -133,6 +133,7 @@ impl StopTable {
         requires { length self.old ≤ length marks.now }
         ensures { self.new ≡ remarked self.old marks.now }
     {
+        // (c) By index: of what an adapter of `iter_mut` writes, a proof knows nothing.
         for i in 0..self.stops.len() {
             self.stops[i].mark = marks[i];
         }
