@@ -118,14 +118,13 @@ impl<'a, S: Source> Draft<'a, S> {
     pub(crate) fn stop(&self, i: usize) -> Option<Stop>
         ensures { option_map plain result ≡ slice_get self.now.stops i }
     {
-        let front = self.front.len();
-        if i < front {
-            return Some(self.front[i]);
-        }
+        let Some(i) = i.checked_sub(self.front.len()) else {
+            return self.front.get(i).copied();
+        };
         match self.put {
-            Some(stop) if i == front => Some(stop),
-            Some(_) => behind_at(self.back, self.leg, i - front - 1),
-            None => behind_at(self.back, self.leg, i - front),
+            Some(stop) if i == 0 => Some(stop),
+            Some(_) => behind_at(self.back, self.leg, i - 1),
+            None => behind_at(self.back, self.leg, i),
         }
     }
 }

@@ -65,23 +65,14 @@ impl<S: Source> Route<S> {
         Ok(all)
     }
 
-    // The cost of the timetable that the marks give.
-    #[tactic(auto, using(crate::proofs::Readings::marked_best, crate::proofs::Readings::loaded_least, crate::proofs::Splices::same_line))]
-    fn timed_cost(&self) -> S::Kind
-        ensures kept { Kept S.Kind.Cost.algebra (S.Source.meaning self.now.source) self.now.stops }
-        ensures best { Best S.Kind.Cost.algebra (line S.Kind.Cost.algebra (S.Source.meaning self.now.source) self.now.stops) (timed S.Kind.Cost.algebra (S.Source.meaning self.now.source) self.now.stops) }
-        ensures least { Least S.Kind.Cost.algebra (line S.Kind.Cost.algebra (S.Source.meaning self.now.source) self.now.stops) (S.Kind.Cost.exact result) }
-    {
-        least(&self.draft(), &self.stops.marks())
-    }
-
     // The least cost of all timetables of the route: that of the timetable which the facts tell. With it comes what
     // every route keeps.
+    #[tactic(auto, using(crate::proofs::Readings::marked_best, crate::proofs::Readings::loaded_least, crate::proofs::Splices::same_line))]
     pub fn least_cost(&self) -> S::Kind
         ensures kept { Kept S.Kind.Cost.algebra (S.Source.meaning self.now.source) self.now.stops }
         ensures best { Best S.Kind.Cost.algebra (line S.Kind.Cost.algebra (S.Source.meaning self.now.source) self.now.stops) (timed S.Kind.Cost.algebra (S.Source.meaning self.now.source) self.now.stops) }
         ensures least { Least S.Kind.Cost.algebra (line S.Kind.Cost.algebra (S.Source.meaning self.now.source) self.now.stops) (S.Kind.Cost.exact result) }
     {
-        self.timed_cost()
+        least(&self.draft(), &self.stops.marks())
     }
 }
