@@ -4,7 +4,7 @@ ghost use Rattle.std.specs.List.{slice_get};
 ghost use Rattle.route.specs.Plain.{spliced};
 ghost use Rattle.route.specs.Table.{plain, plains};
 ghost use Rattle.route.specs.Drafts.{behind};
-ghost use Rattle.route.specs.Judged.{HasPlace};
+ghost use Rattle.route.specs.Steps.{HasPlace};
 
 use crate::stop::{Splice, Stop};
 use source::source::Source;

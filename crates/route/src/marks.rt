@@ -4,7 +4,8 @@ ghost use Rattle.route.specs.declared.stop.Stop.{Stop};
 ghost use Rattle.route.specs.Plain.{spliced};
 ghost use Rattle.route.specs.Table.{plains};
 ghost use Rattle.route.specs.Kept.{Kept};
-ghost use Rattle.route.specs.Judged.{HasPlace, Judged};
+ghost use Rattle.route.specs.Judged.{Judged};
+ghost use Rattle.route.specs.Steps.{HasPlace};
 ghost use Rattle.route.specs.Calls.{Altered, Refreshed, Spliced};
 
 use crate::draft::Draft;

@@ -2,7 +2,7 @@ ghost use Rattle.std.specs.Prelude.{◌≡◌, ◌+◌, ◌-◌, ◌<◌, ◌≤
 ghost use Rattle.route.specs.declared.stop.Splice.TheVariants.{Insert, Remove, Change};
 ghost use Rattle.route.specs.Plain.{releg};
 ghost use Rattle.route.specs.Table.{plains, marks};
-ghost use Rattle.route.specs.Judged.{HasPlace};
+ghost use Rattle.route.specs.Steps.{HasPlace};
 ghost use Rattle.route.specs.Calls.{Altered, remarked};
 
 use crate::stop::{Splice, Stop};
