@@ -1,6 +1,5 @@
 -- What the alterations of the table come to.
-use Rattle.std.proofs.Common.{◌≡◌, ℕ, suc, ◌+◌, ◌-◌, ◌<◌, ◌≤◌, List, [], ◌∷◌, ◌++◌, map, length, get_or, take, drop, set, Some, None, Option, sym, refl, ap, ◌∙◌, append-nil, arith, drop-cons}
-use Rattle.std.specs.Prelude.{MatchOption}
+use Rattle.std.proofs.Common.{◌≡◌, ℕ, suc, ◌+◌, ◌-◌, ◌<◌, ◌≤◌, List, [], ◌∷◌, ◌++◌, map, length, get_or, take, drop, set, sym, ap, ◌∙◌, append-nil, arith, drop-cons}
 use Rattle.std.specs.List.{insert, remove}
 use Rattle.std.proofs.lemmas.List.{length-map, length-take-le, map-append, map-set, set_split, set-get_or, get_or-map, take_all, drop_all, take-map, drop-map, take_at, drop_at, take-append-le, take-take, take-set}
 use Rattle.route.specs.declared.stop.Stop.{Stop}
@@ -8,11 +7,6 @@ use Rattle.route.specs.declared.stop.Splice.TheVariants.{Insert, Remove, Change}
 use Rattle.route.specs.Plain.{Plain, releg, recurve}
 use Rattle.route.specs.Table.{plain, plains, mark, marks}
 use Rattle.route.specs.Calls.{Altered}
-
--- what is said of an absent value
-pub when_none : {A : Type 0} (o : Option A) (P : Type 0) (Q : A → Type 0) → ((x : A) → o ≡ Some x → ⊥) → MatchOption o P Q → P
-when_none None P Q never h = h
-when_none (Some x) P Q never h = absurd (never x refl)
 
 abbrev pub with_leg : Stop → ℕ → Stop
 with_leg s l = record { curve = s.curve; leg = l; mark = s.mark }

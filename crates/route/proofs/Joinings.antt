@@ -1,9 +1,10 @@
 -- Joined stops: their least cost, and their line.
 use Rattle.std.proofs.Common.{◌≡◌, ℕ, ◌-◌, ◌≤◌, List, [], ◌∷◌, ◌++◌, length, take, drop, Some, None, Ok, Err, Option, Result, refl, sym, ap, ◌∙◌, subst, arith}
-use Rattle.std.proofs.lemmas.List.{length-map, length-append, length-take, length-drop}
+use Rattle.std.proofs.lemmas.List.{length-map, length-take, length-drop}
 use Rattle.cost.specs.Algebra.{Algebra}
 use Rattle.source.specs.Meaning.{Meaning}
 use Rattle.timing.specs.Visits.{Visit}
+use Rattle.timing.specs.Marks.{Marks}
 use Rattle.timing.specs.Sound.{Sound}
 use Rattle.route.specs.declared.stop.Stop.{Stop}
 use Rattle.route.specs.declared.stop.Refusal.{Refusal}
@@ -12,10 +13,13 @@ use Rattle.route.specs.Plain.{Plain, releg, seen, visits}
 use Rattle.route.specs.Table.{plain, plains}
 use Rattle.route.specs.Kept.{Kept}
 use Rattle.route.specs.Refusals.{number}
-use Rattle.route.specs.Judged.{Served}
+use Rattle.route.specs.Steps.{Served}
 use Rattle.route.specs.Joins.{Least, joined, objection_to_join, JoinJudged, exactly, refused, blocked, accepted}
 use Rattle.route.proofs.Splices.{same_line}
 use Rattle.route.proofs.Soundness.{lawful_sound, sound_append}
+
+pub no_marks : {E : Type 0} (K : Algebra E) → Marks K [] []
+no_marks K = record { many = refl; each = λ i h. absurd (omega arith) }
 
 length_releg : (l : ℕ) (ps : List Plain) → length (releg l ps) ≡ length ps
 length_releg l [] = refl
@@ -39,9 +43,6 @@ module _ {E : Type 0} (K : Algebra E) (m n : Meaning E) (ss ts : List Stop) (i l
 
   back_few : length back ≤ 64
   back_few = omega (arith, b.few, length_releg leg (drop (j - 1) (plains ts)), length-drop (j - 1) (plains ts), length-map ts plain)
-
-  pub joined_few : length (joined K m (plains ss) i leg n (plains ts) j) ≤ 128
-  joined_few = omega (arith, front_few, back_few, length-map front (seen K m), length-map back (seen K n), length-append (visits K m front) (visits K n back))
 
   pub joined_sound : Sound K (joined K m (plains ss) i leg n (plains ts) j)
   joined_sound =

@@ -11,7 +11,8 @@ use Rattle.route.specs.declared.stop.Splice.{Splice}
 use Rattle.route.specs.Refusals.{number}
 use Rattle.route.specs.Plain.{Plain, spliced, visits}
 use Rattle.route.specs.Table.{plain, plains}
-use Rattle.route.specs.Judged.{Answer, objection, HasPlace, Served, Judged, refused, blocked, accepted}
+use Rattle.route.specs.Judged.{Answer, objection, Judged, refused, blocked, accepted}
+use Rattle.route.specs.Steps.{HasPlace, Served}
 use Rattle.route.specs.Calls.{left}
 use Rattle.route.proofs.Objections.{has_place}
 

@@ -5,7 +5,8 @@ use Rattle.source.specs.Meaning.{Meaning}
 use Rattle.route.specs.declared.stop.Splice.{Splice}
 use Rattle.route.specs.declared.stop.Splice.TheVariants.{Insert, Remove, Change}
 use Rattle.route.specs.Plain.{Plain}
-use Rattle.route.specs.Judged.{outside, objection, HasPlace}
+use Rattle.route.specs.Judged.{outside, objection}
+use Rattle.route.specs.Steps.{HasPlace}
 
 passed : (b : Bool) (n : ℕ) (o : Option ℕ) → cond b (Some n) o ≡ None → (b ≡ false) × (o ≡ None)
 passed true n o e = absurd (let z : ◌≡◌ {A = ℕ} 0 1 = cc in omega arith)

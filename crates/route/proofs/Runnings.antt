@@ -1,5 +1,5 @@
 -- The steps of a whole run.
-use Rattle.std.proofs.Common.{◌≡◌, ℕ, suc, ◌+◌, ◌<◌, ◌≤◌, List, [], ◌∷◌, ◌++◌, map, length, get_or, take, sym, refl, ap, ◌∙◌, subst, arith}
+use Rattle.std.proofs.Common.{◌≡◌, ℕ, suc, ◌+◌, ◌-◌, ◌<◌, ◌≤◌, Bool, false, cond, ◌||◌, ltb, List, [], ◌∷◌, ◌++◌, map, length, get_or, take, Ok, Err, sym, refl, ap, ◌∙◌, subst, arith, le-ltb}
 use Rattle.std.proofs.lemmas.List.{length-map, take_more, take_all, map_push, get_or-map}
 use Rattle.cost.specs.Algebra.{Algebra}
 use Rattle.source.specs.Meaning.{Meaning}
@@ -12,16 +12,26 @@ use Rattle.timing.proofs.Theorems.{best_one}
 use Rattle.route.specs.declared.stop.Stop.{Stop}
 use Rattle.route.specs.declared.stop.Facts.{Facts}
 use Rattle.route.specs.declared.stop.Splice.{Splice}
+use Rattle.route.specs.declared.stop.Refusal.TheVariants.{Place}
 use Rattle.route.specs.Plain.{Plain, seen, visits}
 use Rattle.route.specs.Table.{plain, plains, mark, marks, line, Marked}
-use Rattle.route.specs.Judged.{Answer, Runs}
-use Rattle.route.specs.Calls.{facts_of, timed, Spliced}
+use Rattle.route.specs.Judged.{Answer, Runs, outside}
+use Rattle.route.specs.Calls.{blank, facts_of, facts_at, timed, Spliced}
 use Rattle.route.specs.Joins.{Least}
 use Rattle.route.specs.Guarantee.{told, told_mark, told_minute, Read}
 use Rattle.route.specs.Runs.{Told, Ran}
 use Rattle.route.proofs.Uniqueness.{runs_push, steady}
 
 -- the facts of one stop more
+
+pub facts_there : (ss : List Stop) (ts : List ℕ) (i : ℕ) → i < length ss → facts_at ss ts (i + 1) ≡ Ok (facts_of (get_or ss i blank) (get_or ts i 0))
+facts_there ss ts i h =
+    let a : ltb (i + 1) 1 ≡ false = le-ltb (i + 1) 1 (omega arith) in
+    let b : ltb (length ss) (i + 1) ≡ false = le-ltb (length ss) (i + 1) (omega arith) in
+    let e : outside (i + 1) (length ss) ≡ false = ap (λ (x : Bool). x || ltb (length ss) (i + 1)) a ∙ b in
+    let z : i + 1 - 1 ≡ i = omega arith in
+    ap (λ (x : Bool). cond x (Err Place) (Ok (facts_of (get_or ss (i + 1 - 1) blank) (get_or ts (i + 1 - 1) 0)))) e
+    ∙ ap (λ (k : ℕ). Ok (facts_of (get_or ss k blank) (get_or ts k 0))) z
 
 abbrev pub TellsTo : List Stop → List ℕ → List Facts → ℕ → Type 0
 TellsTo ss ts fs i = (map told fs ≡ take i (plains ss)) × (map told_mark fs ≡ take i (marks ss)) × (map told_minute fs ≡ take i ts)

@@ -7,7 +7,7 @@ use Rattle.route.specs.declared.stop.Splice.TheVariants.{Remove}
 use Rattle.cost.specs.Algebra.{Algebra}
 use Rattle.source.specs.Meaning.{Meaning}
 use Rattle.route.specs.Plain.{Plain, place, spliced, visits}
-use Rattle.route.specs.Judged.{HasPlace}
+use Rattle.route.specs.Steps.{HasPlace}
 use Rattle.route.specs.Table.{plain, plains, line}
 use Rattle.route.specs.Drafts.{put_in, behind, drafted}
 

@@ -1,14 +1,13 @@
 -- How a splice on the plain route is answered, and what it leaves. Assumes nothing.
-use Rattle.std.specs.Prelude.{◌≡◌, ℕ, ◌+◌, ◌<◌, ◌≤◌, Bool, not, ◌||◌, List, [], ◌∷◌, length, is_some, Some, None, Ok, Err, Option, Result, nat_le, nat_lt}
+use Rattle.std.specs.Prelude.{◌≡◌, ℕ, ◌+◌, Bool, not, ◌||◌, List, [], ◌∷◌, length, is_some, Some, None, Ok, Err, Option, Result, nat_le, nat_lt}
 use Rattle.cost.specs.Algebra.{Algebra}
 use Rattle.source.specs.Meaning.{Meaning, span_of}
-use Rattle.timing.specs.Visits.{Visit}
 use Rattle.timing.specs.Timetables.{Feasible}
 use Rattle.timing.specs.Reach.{BlockedAt}
 use Rattle.route.specs.declared.stop.Splice.{Splice}
 use Rattle.route.specs.declared.stop.Splice.TheVariants.{Insert, Remove, Change}
 use Rattle.route.specs.declared.stop.Refusal.{Refusal}
-use Rattle.route.specs.declared.stop.Refusal.TheVariants.{Place, Full, Curve, Leg, NoTimetable}
+use Rattle.route.specs.declared.stop.Refusal.TheVariants.{NoTimetable}
 use Rattle.route.specs.Refusals.{number, first_of}
 use Rattle.route.specs.Plain.{Plain, spliced, visits}
 
@@ -33,24 +32,9 @@ examined m n (Change p k) = (outside p n, 1) ∷ (closed m k, 3) ∷ []
 abbrev pub objection : {E : Type 0} → Meaning E → List Plain → Splice → Option ℕ
 objection m ps s = first_of (examined m (length ps) s)
 
--- the splice has its place on a route of n stops, and room; so it is where nothing speaks against it
-abbrev pub HasPlace : ℕ → Splice → Type 0
-HasPlace n (Insert p k a b) = (1 ≤ p) × (p ≤ n + 1) × (n < 64)
-HasPlace n (Remove p l) = (1 ≤ p) × (p ≤ n)
-HasPlace n (Change p k) = (1 ≤ p) × (p ≤ n)
-
 -- accepted, or refused by a case of the enum
 abbrev pub Answer : Type 0
 Answer = Result (Unit {0}) Refusal
-
--- where nothing but their timetable is asked for, the stops are answered so: the first one up to which there is no timetable is named
-abbrev pub Served : {E : Type 0} → List (Visit E) → Answer → Type 0
-Served vs (Ok x) = Feasible vs
-Served vs (Err Place) = ⊥
-Served vs (Err Full) = ⊥
-Served vs (Err Curve) = ⊥
-Served vs (Err Leg) = ⊥
-Served vs (Err (NoTimetable f)) = BlockedAt vs f
 
 -- on the stops ps the splice s is answered so, and leaves the stops qs
 pub data Judged {E : Type 0} (K : Algebra E) (m : Meaning E) (ps : List Plain) (s : Splice) : Answer → List Plain → Type 0 where

@@ -1,6 +1,7 @@
 pub mod Refusals
 pub mod Plain
 pub mod Judged
+pub mod Steps
 pub mod Table
 pub mod Over
 pub mod Kept

@@ -4,7 +4,7 @@ ghost use Rattle.std.specs.List.{slice_get};
 ghost use Rattle.route.specs.Plain.{spliced};
 ghost use Rattle.route.specs.Table.{plain, plains};
 ghost use Rattle.route.specs.Drafts.{behind};
-ghost use Rattle.route.specs.Judged.{HasPlace};
+ghost use Rattle.route.specs.Steps.{HasPlace};
 
 use crate::stop::{Splice, Stop};
 use source::source::Source;
@@ -118,14 +118,13 @@ impl<'a, S: Source> Draft<'a, S> {
     pub(crate) fn stop(&self, i: usize) -> Option<Stop>
         ensures { option_map plain result ≡ slice_get self.now.stops i }
     {
-        let front = self.front.len();
-        if i < front {
-            return Some(self.front[i]);
-        }
+        let Some(i) = i.checked_sub(self.front.len()) else {
+            return self.front.get(i).copied();
+        };
         match self.put {
-            Some(stop) if i == front => Some(stop),
-            Some(_) => behind_at(self.back, self.leg, i - front - 1),
-            None => behind_at(self.back, self.leg, i - front),
+            Some(stop) if i == 0 => Some(stop),
+            Some(_) => behind_at(self.back, self.leg, i - 1),
+            None => behind_at(self.back, self.leg, i),
         }
     }
 }

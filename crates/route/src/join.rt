@@ -79,25 +79,9 @@ fn least_of<L: Line>(line: &L) -> L::Kind
     marked.least()
 }
 
-impl<A: Source> Route<A> {
-    // The least cost of this route joined to another.
-    #[tactic(auto, using(crate::proofs::Joinings::join_refused, crate::proofs::Joinings::join_blocked, crate::proofs::Joinings::join_accepted))]
-    fn joined_cost<'a, B: Source<Exact = A::Exact, Kind = A::Kind>>(
-        &'a self,
-        b: &'a Route<B>,
-        at: JoinAt,
-    ) -> Result<A::Kind, Refusal>
-        ensures { JoinJudged A.Kind.Cost.algebra (A.Source.meaning self.now.source) (plains self.now.stops) at.i at.leg (B.Source.meaning b.now.source) (plains b.now.stops) at.j (exactly A.Kind.Cost.exact result) }
-    {
-        at.examine(self.stop_count(), b.stop_count())?;
-        let line = at.draft(self, b);
-        serve(&line)?;
-        Ok(least_of(&line))
-    }
-}
-
 // The least cost of the first i stops of one route followed by the other's from place j on, the first of these by
 // another leg. Both routes stay.
+#[tactic(auto, using(crate::proofs::Joinings::join_refused, crate::proofs::Joinings::join_blocked, crate::proofs::Joinings::join_accepted))]
 pub fn join<'a, A: Source, B: Source<Exact = A::Exact, Kind = A::Kind>>(
     a: &'a Route<A>,
     i: usize,
@@ -107,5 +91,9 @@ pub fn join<'a, A: Source, B: Source<Exact = A::Exact, Kind = A::Kind>>(
 ) -> Result<A::Kind, Refusal>
     ensures { JoinJudged A.Kind.Cost.algebra (A.Source.meaning a.now.source) (plains a.now.stops) i leg (B.Source.meaning b.now.source) (plains b.now.stops) j (exactly A.Kind.Cost.exact result) }
 {
-    a.joined_cost(b, JoinAt { i, leg, j })
+    let at = JoinAt { i, leg, j };
+    at.examine(a.stop_count(), b.stop_count())?;
+    let line = at.draft(a, b);
+    serve(&line)?;
+    Ok(least_of(&line))
 }

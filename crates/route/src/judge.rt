@@ -2,7 +2,8 @@ ghost use Rattle.std.specs.Prelude.{◌≡◌, length, OnOk};
 ghost use Rattle.route.specs.Refusals.{refused_by};
 ghost use Rattle.route.specs.Plain.{spliced};
 ghost use Rattle.route.specs.Table.{plains};
-ghost use Rattle.route.specs.Judged.{outside, closed, long, objection, HasPlace, Judged, Served};
+ghost use Rattle.route.specs.Judged.{outside, closed, long, objection, Judged};
+ghost use Rattle.route.specs.Steps.{HasPlace, Served};
 ghost use Rattle.route.specs.Calls.{left};
 
 use crate::draft::Draft;

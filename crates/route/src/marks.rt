@@ -4,7 +4,8 @@ ghost use Rattle.route.specs.declared.stop.Stop.{Stop};
 ghost use Rattle.route.specs.Plain.{spliced};
 ghost use Rattle.route.specs.Table.{plains};
 ghost use Rattle.route.specs.Kept.{Kept};
-ghost use Rattle.route.specs.Judged.{HasPlace, Judged};
+ghost use Rattle.route.specs.Judged.{Judged};
+ghost use Rattle.route.specs.Steps.{HasPlace};
 ghost use Rattle.route.specs.Calls.{Altered, Refreshed, Spliced};
 
 use crate::draft::Draft;
@@ -25,17 +26,8 @@ fn refresh_from<S: Source>(source: &S, stops: &mut StopTable, from: usize)
     stops.set_marks(&marks);
 }
 
-// Finds the marks anew after an accepted splice has altered the table ss: only those from its place on.
+// Makes a splice that is accepted, and finds the marks from its place on anew.
 #[tactic(auto, using(crate::proofs::Settling::settled, crate::proofs::Settling::kept_on))]
-fn settle<S: Source>(source: &S, stops: &mut StopTable, splice: Splice)
-    requires { Lawful S.Kind.Cost.algebra (S.Source.meaning source.now) }
-    ensures kept { (ss : List Stop) → Kept S.Kind.Cost.algebra (S.Source.meaning source.now) ss → Judged S.Kind.Cost.algebra (S.Source.meaning source.now) (plains ss) splice (Ok tt) (spliced splice (plains ss)) → Altered ss splice stops.old → Kept S.Kind.Cost.algebra (S.Source.meaning source.now) stops.new }
-    ensures spliced { (ss : List Stop) → Judged S.Kind.Cost.algebra (S.Source.meaning source.now) (plains ss) splice (Ok tt) (spliced splice (plains ss)) → Altered ss splice stops.old → Spliced S.Kind.Cost.algebra (S.Source.meaning source.now) ss splice (Ok tt) stops.new }
-{
-    refresh_from(source, stops, splice.front());
-}
-
-// Makes a splice that is accepted.
 pub(crate) fn make<S: Source>(source: &S, stops: &mut StopTable, splice: Splice)
     requires kept { Kept S.Kind.Cost.algebra (S.Source.meaning source.now) stops.old }
     requires place { HasPlace (length stops.old) splice }
@@ -44,5 +36,5 @@ pub(crate) fn make<S: Source>(source: &S, stops: &mut StopTable, splice: Splice)
     ensures spliced { Spliced S.Kind.Cost.algebra (S.Source.meaning source.now) stops.old splice (Ok tt) stops.new }
 {
     stops.splice(splice);
-    settle(source, stops, splice);
+    refresh_from(source, stops, splice.front());
 }

@@ -1,7 +1,7 @@
 ghost use Rattle.std.specs.Prelude.{◌≡◌, IfOk, slice_index};
-ghost use Rattle.source.specs.Meaning.{Lawful};
 ghost use Rattle.timing.specs.Best.{Best};
-ghost use Rattle.route.specs.Table.{plains, line, Marked};
+ghost use Rattle.route.specs.Table.{plains, line};
+ghost use Rattle.route.specs.Kept.{Kept};
 ghost use Rattle.route.specs.Calls.{timed, facts_of, facts_at};
 ghost use Rattle.route.specs.Joins.{Least};
 ghost use Rattle.route.specs.Runs.{Told};
@@ -69,11 +69,11 @@ impl<S: Source> Route<S> {
         Ok(all)
     }
 
-    // The cost of the timetable that the marks give.
+    // The least cost of all timetables of the route: that of the timetable which the facts tell. With it comes what
+    // every route keeps.
     #[tactic(auto, using(crate::proofs::Readings::marked_best, crate::proofs::Readings::loaded_least, crate::proofs::Splices::same_line))]
-    fn timed_cost(&self) -> S::Kind
-        ensures lawful { Lawful S.Kind.Cost.algebra (S.Source.meaning self.now.source) }
-        ensures marked { Marked S.Kind.Cost.algebra (S.Source.meaning self.now.source) self.now.stops }
+    pub fn least_cost(&self) -> S::Kind
+        ensures kept { Kept S.Kind.Cost.algebra (S.Source.meaning self.now.source) self.now.stops }
         ensures best { Best S.Kind.Cost.algebra (line S.Kind.Cost.algebra (S.Source.meaning self.now.source) self.now.stops) (timed S.Kind.Cost.algebra (S.Source.meaning self.now.source) self.now.stops) }
         ensures least { Least S.Kind.Cost.algebra (line S.Kind.Cost.algebra (S.Source.meaning self.now.source) self.now.stops) (S.Kind.Cost.exact result) }
     {
@@ -82,16 +82,5 @@ impl<S: Source> Route<S> {
             marks: &self.stops.marks(),
         };
         marked.least()
-    }
-
-    // The least cost of all timetables of the route: that of the timetable which the facts tell. With it comes what
-    // every route keeps.
-    pub fn least_cost(&self) -> S::Kind
-        ensures lawful { Lawful S.Kind.Cost.algebra (S.Source.meaning self.now.source) }
-        ensures marked { Marked S.Kind.Cost.algebra (S.Source.meaning self.now.source) self.now.stops }
-        ensures best { Best S.Kind.Cost.algebra (line S.Kind.Cost.algebra (S.Source.meaning self.now.source) self.now.stops) (timed S.Kind.Cost.algebra (S.Source.meaning self.now.source) self.now.stops) }
-        ensures least { Least S.Kind.Cost.algebra (line S.Kind.Cost.algebra (S.Source.meaning self.now.source) self.now.stops) (S.Kind.Cost.exact result) }
-    {
-        self.timed_cost()
     }
 }

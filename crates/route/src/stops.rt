@@ -2,7 +2,7 @@ ghost use Rattle.std.specs.Prelude.{◌≡◌, ◌+◌, ◌-◌, ◌<◌, ◌≤
 ghost use Rattle.route.specs.declared.stop.Splice.TheVariants.{Insert, Remove, Change};
 ghost use Rattle.route.specs.Plain.{releg};
 ghost use Rattle.route.specs.Table.{plains, marks};
-ghost use Rattle.route.specs.Judged.{HasPlace};
+ghost use Rattle.route.specs.Steps.{HasPlace};
 ghost use Rattle.route.specs.Calls.{Altered, remarked};
 
 use crate::stop::{Splice, Stop};
@@ -133,6 +133,7 @@ impl StopTable {
         requires { length self.old ≤ length marks.now }
         ensures { self.new ≡ remarked self.old marks.now }
     {
+        // (c) By index: of what an adapter of `iter_mut` writes, a proof knows nothing.
         for i in 0..self.stops.len() {
             self.stops[i].mark = marks[i];
         }

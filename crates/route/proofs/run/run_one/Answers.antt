@@ -9,4 +9,4 @@ returns g c =
     let read = c.least_cost.ensures in
     let route = c.in_ok-route.route in
     let last = c.make_all.new.route in
-    ran_from g.S.Kind.Cost.algebra g.S.Source.meaning c.args.source route.source last.source route.stops last.stops c.args.splices.now (vec_items c.in_ok-answers.answers) c.stop_count.result (vec_items c.in_ok-facts.facts) (g.S.Kind.Cost.exact c.least_cost.result) opened.source opened.stops made.source made.runs c.in_ok-facts.ensures c.stop_count.ensures.value read.marked read.best read.least
+    ran_from g.S.Kind.Cost.algebra g.S.Source.meaning c.args.source route.source last.source route.stops last.stops c.args.splices.now (vec_items c.in_ok-answers.answers) c.stop_count.result (vec_items c.in_ok-facts.facts) (g.S.Kind.Cost.exact c.least_cost.result) opened.source opened.stops made.source made.runs c.in_ok-facts.ensures c.stop_count.ensures.value read.kept.marked read.best read.least
