@@ -1,5 +1,5 @@
 -- The line of a stop, by the text of its facts. Assumes nothing.
-use Rattle.std.proofs.Common.{◌≡◌, ℕ, List, [], ◌∷◌, ◌++◌, codes, decimal, append_assoc, ap, ◌∙◌}
+use Rattle.std.proofs.Common.{◌≡◌, ℕ, List, [], ◌∷◌, ◌++◌, codes, decimal, append_assoc, ap}
 use Rattle.route.specs.declared.stop.Facts.{Facts}
 use Rattle.route.specs.FactsText.{facts_text}
 use Rattle.card_table.specs.Lines.{facts_line}

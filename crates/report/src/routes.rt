@@ -39,7 +39,6 @@ fn write_route<S: Source>(
 ) -> Result<usize, ReportRefusal>
 where
     S::Kind: Written<S::Exact>,
-    requires { length facts.now ≤ 64 }
     ensures { facts.now ≡ route_facts S.Kind.Cost.algebra (S.Source.meaning route.now.source) route.now.stops → Reported S.Kind.Cost.algebra S.Kind.Written.text S.Kind.Written.longest (S.Source.meaning route.now.source) route.now.stops buf.old buf.new result }
 {
     write_report(facts, route.least_cost(), buf)

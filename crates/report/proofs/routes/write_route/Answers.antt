@@ -16,8 +16,8 @@ returns g c = λ e.
     let buf = c.args.buf.now in
     let cost = g.S.Kind.Cost.exact c.least_cost.result in
     let text = g.S.Kind.Written.text cost in
-    let few : length ss ≤ 64 = omega (arith, ap length e, all_length K m ss) in
-    let law = c.least_cost.ensures.lawful in
+    let few : length ss ≤ 64 = c.least_cost.ensures.kept.few in
+    let law = c.least_cost.ensures.kept.lawful in
     record {
       cost = cost;
       least = c.least_cost.ensures.least;
@@ -27,6 +27,6 @@ returns g c = λ e.
       bound =
           subst (λ (fs : List Facts). Bounded fs (K.size cost) text g.S.Kind.Written.longest) e c.write_report.ensures.bound
           (omega (arith, all_length K m ss))
-          (route_ordinary K m law ss few c.least_cost.ensures.marked)
+          (route_ordinary K m law ss few c.least_cost.ensures.kept.marked)
           (least_small K m law ss few cost c.least_cost.ensures.least);
     }
