@@ -152,7 +152,7 @@ impl BendHead {
     }
 }
 
-// Kept: this book and the due book are alike in four short methods; one struct for both would need a trait with the test, the window and the cost of an entry, its laws, and a table for what the test reads besides, which is more than it saves.
+// Kept: the due book has four short methods like these; one struct for both would need a trait with the test and the cost of an entry, its law, and a table that the test reads besides, which is more than it saves.
 impl BendBook {
     pub fn new(heads: Vec<BendHead>, bends: Vec<Bend>) -> BendBook
         ensures { (result.heads ≡ heads) × (result.bends ≡ bends) }

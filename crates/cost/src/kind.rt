@@ -23,6 +23,7 @@ pub trait Cost<E>: Copy {
         ensures { exact result ≡ multiple w (exact self) };
 
     // The comparison is the order of the exact costs.
+    // Kept: a method and not `Ord`, since the trait's law is about the exact costs, of which a derive knows nothing.
     fn less(self, other: Self) -> bool
         ensures { result ≡ algebra.less (exact self) (exact other) };
 

@@ -46,7 +46,7 @@ impl<'a> Target for Writer<'a> {
     #[tactic(auto, using(crate::proofs::Bytes::put_range))]
     fn put(&mut self, bytes: &[u8]) -> Option<()> {
         let end = self.at.checked_add(bytes.len())?;
-        // Not `get_mut(self.at..end)`: its contract does not say what the buffer is after the loan.
+        // Kept: not `get_mut(self.at..end)`, whose contract does not say what the buffer is after the loan.
         if end > self.buf.len() {
             return None;
         }

@@ -34,7 +34,8 @@ pub trait Text {
     }
 }
 
-// Puts a number in decimal, digit by digit: std prints one only into a string on the heap or through a formatter.
+// Puts a number in decimal.
+// Kept: digit by digit, since std prints a number only into a string on the heap or through a formatter.
 #[tactic(auto, using(crate::proofs::Pieces::puts_digit, crate::proofs::Pieces::puts_last, crate::proofs::Pieces::puts_front))]
 fn put_decimal<T: Target>(n: u64, target: &mut T) -> Option<()>
     ensures { Puts T.model (decimal n) target.old target.new result }

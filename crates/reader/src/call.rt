@@ -17,6 +17,7 @@ const PLACE: u32 = 3;
 const OUT: u32 = 4;
 
 // Which splice a call is.
+// Kept: an enum of its own, since the form of a call is known before the numbers that make it a `Splice`.
 #[derive(Clone, Copy)]
 pub(crate) enum Form {
     Inserting,

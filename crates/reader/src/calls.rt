@@ -107,6 +107,7 @@ pub fn run_calls<S: Source>(route: &mut Route<S>, strip: &[u8], at: usize) -> Re
     if strip.len() < at {
         return Err(here.fault(Cause::CutOff));
     }
+    // Kept: a `while`, since each record tells where the next one begins.
     while here.byte < strip.len() {
         here = run_call(route, strip, here)?;
     }

@@ -41,6 +41,7 @@ pub struct RefusedCall {
 
 impl Cause {
     // The number that is printed for the cause.
+    // Kept: a number for each case, since it is what is printed.
     pub fn number(&self) -> u8
         ensures { result ≡ cause_number self.now }
     {

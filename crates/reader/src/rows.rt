@@ -10,8 +10,8 @@ const LONGEST: usize = 4096;
 
 const MOST_ROWS: usize = 64;
 
-// How many rows a strip has, and the byte, counted from 0, where its calls begin. The rows stand in a table that is
-// lent, so that reading them wants no memory.
+// How many rows a strip has, and the byte, counted from 0, where its calls begin.
+// Kept: the rows themselves stand in a table that is lent, so that reading them wants no memory.
 #[derive(Clone, Copy, PartialEq, Eq, Debug)]
 pub struct RowsRead {
     pub rows: usize,

@@ -10,6 +10,7 @@ pub enum ReportRefusal {
 
 impl ReportRefusal {
     // The number under which the refusal is told.
+    // Kept: a number, since it is what others know the refusal by.
     pub fn number(self) -> u8
         ensures { result ≡ number self }
     {

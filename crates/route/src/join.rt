@@ -55,6 +55,7 @@ impl JoinAt {
 }
 
 // The marks of all stops of a line, with room for those of two routes.
+// Kept: fixed room, so that a join wants no memory.
 fn all_marks<L: Line>(line: &L) -> [u16; 128]
     ensures { Sound L.Kind.Cost.algebra (L.visits line.now) → Feasible (L.visits line.now) → length (L.visits line.now) ≤ 128 → Marks L.Kind.Cost.algebra (L.visits line.now) (take (length (L.visits line.now)) result) }
 {
@@ -81,6 +82,7 @@ fn least_of<L: Line>(line: &L) -> L::Kind
 
 // The least cost of the first i stops of one route followed by the other's from place j on, the first of these by
 // another leg. Both routes stay.
+// Kept: the numbers one by one, as a join is spoken of; inside they go as one `JoinAt`.
 #[tactic(auto, using(crate::proofs::Joinings::join_refused, crate::proofs::Joinings::join_blocked, crate::proofs::Joinings::join_accepted))]
 pub fn join<'a, A: Source, B: Source<Exact = A::Exact, Kind = A::Kind>>(
     a: &'a Route<A>,

@@ -33,6 +33,7 @@ impl<S: Source> Line for Draft<'_, S> {
     }
 }
 
+// Kept: three alike methods, since the two parts have different types and no one reference can stand for either.
 impl<A: Source, B: Source<Exact = A::Exact, Kind = A::Kind>> Line for Joined<'_, A, B> {
     type Exact = A::Exact;
 

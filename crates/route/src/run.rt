@@ -51,6 +51,7 @@ fn run_one<S: Source + Drop>(
 
 // Opens two empty routes, each over its own source, makes the splices on each, reads all that can be read of both, and
 // joins them. The whole guarantee stands here, with no premise.
+// Kept: the numbers of the join one by one, as in `join`.
 pub fn whole_run<A: Source + Drop, B: Source<Exact = A::Exact, Kind = A::Kind> + Drop>(
     heap: Global,
     first: A,

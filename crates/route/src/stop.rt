@@ -72,6 +72,7 @@ pub enum Refusal {
 
 impl Refusal {
     // The number under which a refusal is told.
+    // Kept: a number for each case, since it is what is printed and what others know a refusal by.
     pub fn number(&self) -> u8
         ensures { result ≡ number self.now }
     {

@@ -117,6 +117,7 @@ impl StopTable {
     }
 
     // The marks in the table, with room for 64.
+    // Kept: fixed room, so that no splice wants memory.
     pub(crate) fn marks(&self) -> [u16; 64]
         ensures marks { take (length self.now) result ≡ marks self.now }
         ensures room { length result ≡ 64 }
@@ -133,9 +134,8 @@ impl StopTable {
         requires { length self.old ≤ length marks.now }
         ensures { self.new ≡ remarked self.old marks.now }
     {
-        // (c) By index: of what an adapter of `iter_mut` writes, a proof knows nothing.
-        for i in 0..self.stops.len() {
-            self.stops[i].mark = marks[i];
+        for (i, stop) in self.stops.as_mut_slice().iter_mut().enumerate() {
+            stop.mark = marks[i];
         }
     }
 }

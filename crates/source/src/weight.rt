@@ -10,6 +10,7 @@ use cost::kind::Cost;
 const HIGHEST_PEAK: u64 = 1099511627776;
 
 // The weights of the curves 0 to 63.
+// Kept: an array, since there are sixty-four, handed over together by value.
 #[derive(Drop)]
 struct WeightTable {
     entries: [u8; 64],

@@ -67,7 +67,7 @@ impl<L: Line> MarkedLine<'_, L> {
     {
         let mut low = soonest;
         let (_, mut high) = span(self.line, self.marks.len());
-        // By hand, since `partition_point` searches a slice, and these are minutes.
+        // Kept: halved by hand, since `partition_point` searches a slice, and these are minutes.
         while low < high {
             let middle = low + (high - low) / 2;
             if self.rises(middle) {
@@ -115,7 +115,7 @@ pub fn refresh<L: Line>(line: &L, marks: &mut [u16], from: usize)
         Sound K vs → Feasible vs → from ≤ length vs → length vs ≤ length marks.old → Marks K (take from vs) (take from marks.old) → Marks K vs (take (length vs) marks.new) }
 {
     let mut ready = arrival(line, from);
-    // By number, since each mark is found from all those before it: an iterator would lend them out.
+    // Kept: by number, since each mark is found from all those before it, and an iterator would lend them out.
     for i in from..line.count().min(marks.len()) {
         ready = soonest(line, i, ready);
         write_mark(line, marks, i, ready);

@@ -45,7 +45,7 @@ impl<L: Line> MarkedLine<'_, L> {
         ensures { let ts = minutes (L.visits self.now.line.now) self.now.marks.now in
             next ≡ slice_index ts (j + 1) → result ≡ slice_index ts j }
     {
-        // By number, since a line's stops have no other name.
+        // Kept: by number, since a line's stops have no other name.
         let mark = self.marks[j];
         if j + 1 < self.count() {
             mark.min(latest_before(self.line, j + 1, next))
