@@ -1,5 +1,5 @@
 -- Joined stops: their least cost, and their line.
-use Rattle.std.proofs.Common.{◌≡◌, ℕ, ◌-◌, ◌≤◌, List, [], ◌∷◌, ◌++◌, length, take, drop, Some, None, Ok, Err, Option, Result, refl, sym, ap, ◌∙◌, subst, arith}
+use Rattle.std.proofs.Common.{◌≡◌, ℕ, ◌-◌, ◌≤◌, List, [], ◌∷◌, length, take, drop, Some, None, Ok, Err, Option, Result, refl, sym, ap, ◌∙◌, subst, arith}
 use Rattle.std.proofs.lemmas.List.{length-map, length-take, length-drop}
 use Rattle.cost.specs.Algebra.{Algebra}
 use Rattle.source.specs.Meaning.{Meaning}
@@ -15,7 +15,6 @@ use Rattle.route.specs.Kept.{Kept}
 use Rattle.route.specs.Refusals.{number}
 use Rattle.route.specs.Steps.{Served}
 use Rattle.route.specs.Joins.{Least, joined, objection_to_join, JoinJudged, exactly, refused, blocked, accepted}
-use Rattle.route.proofs.Splices.{same_line}
 use Rattle.route.proofs.Soundness.{lawful_sound, sound_append}
 
 pub no_marks : {E : Type 0} (K : Algebra E) → Marks K [] []
@@ -24,11 +23,6 @@ no_marks K = record { many = refl; each = λ i h. absurd (omega arith) }
 length_releg : (l : ℕ) (ps : List Plain) → length (releg l ps) ≡ length ps
 length_releg l [] = refl
 length_releg l (p ∷ ps) = refl
-
--- two parts of tables as the timing sees them
-pub same_joined : {X Y E : Type 0} (K : Algebra E) (M : X → Meaning E) (N : Y → Meaning E) (a : X) (b : X) (c d : Y) (ps qs rs us : List Plain) → a ≡ b → ps ≡ qs → c ≡ d → rs ≡ us → visits K (M a) ps ++ visits K (N c) rs ≡ visits K (M b) qs ++ visits K (N d) us
-same_joined {E = E} K M N a b c d ps qs rs us e f g h =
-    ap (λ (l : List (Visit E)). l ++ visits K (N c) rs) (same_line K M a b ps qs e f) ∙ ap (λ (l : List (Visit E)). visits K (M b) qs ++ l) (same_line K N c d rs us g h)
 
 -- the joined stops of two routes are as the engine asks
 module _ {E : Type 0} (K : Algebra E) (m n : Meaning E) (ss ts : List Stop) (i leg j : ℕ) (a : Kept K m ss) (b : Kept K n ts) where

@@ -192,4 +192,15 @@ mod tests {
         assert_eq!(rt; outcome.joined?.units(), 5);
         Ok(())
     }
+
+    // A refusal is printed as its number, with the stop that it names.
+    #[test]
+    fn refusals_printed(rt: HostRuntime) -> Result<(), Fail> {
+        let blocked = Refusal::NoTimetable { stop: 2 };
+        assert_eq!(rt; blocked.stop(), Some(2));
+        assert_eq!(rt; blocked.to_string(rt.alloc())?.as_str(), "5 stop 2");
+        assert_eq!(rt; Refusal::Leg.stop(), None);
+        assert_eq!(rt; Refusal::Leg.to_string(rt.alloc())?.as_str(), "4");
+        Ok(())
+    }
 }
