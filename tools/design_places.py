@@ -69,7 +69,11 @@ def kept(lines, i):
         if '// Kept:' in lines[i]:
             return True
         i -= 1
-    return False
+    while i >= 0 and not re.match(r'(impl|trait)\b', lines[i]):
+        if re.match(r'(pub(\(\w+\))? )?(fn|const|struct|enum)\b', lines[i]):
+            return False
+        i -= 1
+    return i > 0 and '// Kept:' in lines[i - 1]
 
 
 def by_pattern(root, point):

@@ -6,11 +6,11 @@ mod show;
 use card_table::lines::least_pair_line;
 use card_table::table::{card_rows, late_rows};
 use cost::amount::Amount;
-use route::card::Card;
+use route::card::{Card, Outcome};
 use route::run::whole_run;
 use route::stop::Splice;
 use show::{show_least, show_stops};
-use source::due::{DueBook, DueRow};
+use source::due::DueBook;
 use source::pairing::Pairing;
 use std::alloc::{AllocError, Global};
 
@@ -23,8 +23,28 @@ fn insert(place: usize, curve: u8, leg_in: u16, leg_out: u16) -> Splice {
     }
 }
 
-fn book(heap: Global, rows: &[DueRow]) -> Result<DueBook, AllocError> {
-    Ok(DueBook::new(Vec::from_slice(heap, rows)?))
+// Two routes over the rows by money, each with its splices, and the join of the first i stops of one, by a leg, with the
+// stops of the other from place j on.
+fn by_money(
+    heap: Global,
+    first: &[Splice],
+    second: &[Splice],
+    i: usize,
+    leg: u16,
+    j: usize,
+) -> Result<Outcome<Amount>, AllocError> {
+    let rows = card_rows();
+    let front = DueBook::of_rows(heap, &rows)?;
+    let back = DueBook::of_rows(heap, &rows)?;
+    whole_run(heap, front, first, back, second, i, leg, j)
+}
+
+// The rows by promise: minutes late, then money.
+fn promise_books(heap: Global) -> Result<Pairing<DueBook, DueBook>, AllocError> {
+    Ok(Pairing {
+        first: DueBook::of_rows(heap, &late_rows())?,
+        second: DueBook::of_rows(heap, &card_rows())?,
+    })
 }
 
 fn show_money(rt: &HostRuntime, name: &str, card: &Card<Amount>) -> anyhow::Result<()> {
@@ -35,47 +55,19 @@ fn show_money(rt: &HostRuntime, name: &str, card: &Card<Amount>) -> anyhow::Resu
 // Cards 1 to 5 and 7: four splices, one after another, and the join of the third card with the fifth.
 fn splices_and_join(rt: &HostRuntime) -> anyhow::Result<()> {
     let heap = rt.alloc();
-    let rows = card_rows();
     let splices = [
         insert(1, 0, 0, 0),
         insert(2, 1, 10, 0),
         insert(1, 2, 0, 6),
         Splice::Remove { place: 2, leg: 20 },
     ];
-    let start = whole_run(
-        heap,
-        book(heap, &rows)?,
-        &splices[0..0],
-        book(heap, &rows)?,
-        &splices[0..1],
-        0,
-        0,
-        1,
-    )?;
+    let start = by_money(heap, &splices[..0], &splices[..1], 0, 0, 1)?;
     show_money(rt, "1", &start.first)?;
     show_money(rt, "2", &start.second)?;
-    let middle = whole_run(
-        heap,
-        book(heap, &rows)?,
-        &splices[0..2],
-        book(heap, &rows)?,
-        &splices[0..3],
-        0,
-        0,
-        1,
-    )?;
+    let middle = by_money(heap, &splices[..2], &splices[..3], 0, 0, 1)?;
     show_money(rt, "3", &middle.first)?;
     show_money(rt, "4", &middle.second)?;
-    let end = whole_run(
-        heap,
-        book(heap, &rows)?,
-        &splices[0..2],
-        book(heap, &rows)?,
-        &splices,
-        1,
-        10,
-        2,
-    )?;
+    let end = by_money(heap, &splices[..2], &splices, 1, 10, 2)?;
     show_money(rt, "5", &end.second)?;
     println!(rt; "card 7")?;
     show_least(rt, end.joined)
@@ -83,20 +75,9 @@ fn splices_and_join(rt: &HostRuntime) -> anyhow::Result<()> {
 
 // Card 6: a leg that the windows just bear, and one that they do not.
 fn legs(rt: &HostRuntime) -> anyhow::Result<()> {
-    let heap = rt.alloc();
-    let rows = card_rows();
     let bears = [insert(1, 2, 0, 0), insert(2, 2, 20, 0)];
     let breaks = [insert(1, 2, 0, 0), insert(2, 2, 21, 0)];
-    let both = whole_run(
-        heap,
-        book(heap, &rows)?,
-        &bears,
-        book(heap, &rows)?,
-        &breaks,
-        0,
-        0,
-        1,
-    )?;
+    let both = by_money(rt.alloc(), &bears, &breaks, 0, 0, 1)?;
     show_money(rt, "6 leg 20", &both.first)?;
     show_money(rt, "6 leg 21", &both.second)
 }
@@ -104,36 +85,19 @@ fn legs(rt: &HostRuntime) -> anyhow::Result<()> {
 // Card 8: the same splices by money and by promise.
 fn money_and_promise(rt: &HostRuntime) -> anyhow::Result<()> {
     let heap = rt.alloc();
-    let rows = card_rows();
-    let late = late_rows();
     let splices = [insert(1, 3, 0, 0), insert(2, 1, 10, 0)];
-    let money = whole_run(
-        heap,
-        book(heap, &rows)?,
-        &splices,
-        book(heap, &rows)?,
-        &splices[0..0],
-        2,
-        0,
-        1,
-    )?;
+    let money = by_money(heap, &splices, &splices[..0], 2, 0, 1)?;
     show_money(rt, "8 money", &money.first)?;
-    let pairing = Pairing {
-        first: book(heap, &late)?,
-        second: book(heap, &rows)?,
-    };
-    let other = Pairing {
-        first: book(heap, &late)?,
-        second: book(heap, &rows)?,
-    };
-    let promise = whole_run(heap, pairing, &splices, other, &splices[0..0], 2, 0, 1)?;
+    let front = promise_books(heap)?;
+    let back = promise_books(heap)?;
+    let promise = whole_run(heap, front, &splices, back, &splices[..0], 2, 0, 1)?.first;
     show_stops(
         rt,
         "8 promise",
-        promise.first.answers.as_slice(),
-        promise.first.facts.as_slice(),
+        promise.answers.as_slice(),
+        promise.facts.as_slice(),
     )?;
-    let least = promise.first.least;
+    let least = promise.least;
     let line = least_pair_line(heap, least.first.units(), least.second.units())?;
     print!(rt; "{line}")?;
     Ok(())

@@ -1,9 +1,10 @@
 use crate::amount::Amount;
-use crate::amounts::TOP;
 use crate::kind::Cost;
 use crate::pair::Pair;
 use crate::text::Text;
 use crate::written::Written;
+
+const TOP: u64 = 1125899906842624;
 
 fn pair(first: u64, second: u64) -> Pair<Amount, Amount> {
     Pair {

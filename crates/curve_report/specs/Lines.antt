@@ -35,9 +35,13 @@ CurveLines rows zero text = text ≡ []
 CurveLines rows (suc curve) text =
     (before : List ℕ) × CurveLines rows curve before × Grown rows curve before text
 
+-- the curve has a window
+abbrev pub IsOpen : List DueRow → ℕ → Type 0
+IsOpen rows curve = is_some (span_of ((due_meaning rows).curve curve)) ≡ true
+
 -- each row is a curve that is open
 abbrev pub EachOpen : List DueRow → Type 0
-EachOpen rows = (curve : ℕ) → curve < length rows → is_some (span_of ((due_meaning rows).curve curve)) ≡ true
+EachOpen rows = (curve : ℕ) → curve < length rows → IsOpen rows curve
 
 abbrev pub rows_line : ℕ → List ℕ
 rows_line count = codes "rows " ++ (decimal count ++ ended)

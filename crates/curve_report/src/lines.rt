@@ -1,7 +1,5 @@
-ghost use Rattle.std.specs.Prelude.{◌≡◌, true, is_some, IfOk, string_bytes};
-ghost use Rattle.source.specs.Meaning.{span_of};
-ghost use Rattle.source.specs.Due.{due_meaning};
-ghost use Rattle.curve_report.specs.Lines.{line_of, CurveLine, rows_line};
+ghost use Rattle.std.specs.Prelude.{◌≡◌, IfOk, string_bytes};
+ghost use Rattle.curve_report.specs.Lines.{line_of, CurveLine, IsOpen, rows_line};
 
 use source::cheapest::cheapest;
 use source::due::DueBook;
@@ -23,7 +21,7 @@ fn put_line(
 
 // The line of an open curve.
 pub(crate) fn curve_line(heap: Global, book: &DueBook, curve: u8) -> Result<String, AllocError>
-    requires { is_some (span_of ((due_meaning (book.now.rows.items)).curve curve)) ≡ true }
+    requires { IsOpen book.now.rows.items curve }
     ensures { IfOk result (λ s. CurveLine book.now.rows.items curve (string_bytes s)) }
 {
     let Some((first, last)) = book.window(curve) else {

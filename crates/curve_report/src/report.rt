@@ -1,7 +1,5 @@
-ghost use Rattle.std.specs.Prelude.{◌≡◌, ℕ, ◌<◌, ◌≤◌, true, length, is_some, IfOk, string_bytes, OnOk};
-ghost use Rattle.source.specs.Meaning.{span_of};
-ghost use Rattle.source.specs.Due.{due_meaning};
-ghost use Rattle.curve_report.specs.Lines.{Grown, CurveLines, EachOpen, RowsText};
+ghost use Rattle.std.specs.Prelude.{ℕ, ◌<◌, ◌≤◌, length, IfOk, string_bytes, OnOk};
+ghost use Rattle.curve_report.specs.Lines.{Grown, CurveLines, IsOpen, EachOpen, RowsText};
 ghost use Rattle.curve_report.specs.Printed.{PrintsOnly};
 
 use crate::lines::{curve_line, rows_line};
@@ -12,7 +10,7 @@ use std::alloc::{AllocError, Global};
 
 // Adds the line of an open curve.
 fn add_curve(heap: Global, book: &DueBook, curve: u8, text: &mut String) -> Result<(), AllocError>
-    requires { is_some (span_of ((due_meaning (book.now.rows.items)).curve curve)) ≡ true }
+    requires { IsOpen book.now.rows.items curve }
     ensures { OnOk result (Grown book.now.rows.items curve (string_bytes text.old) (string_bytes text.new)) }
 {
     let line = curve_line(heap, book, curve)?;
@@ -21,7 +19,7 @@ fn add_curve(heap: Global, book: &DueBook, curve: u8, text: &mut String) -> Resu
 
 // The lines of a book's first so many curves.
 fn curve_lines(heap: Global, book: &DueBook, count: u8) -> Result<String, AllocError>
-    requires { (k : ℕ) → k < count → is_some (span_of ((due_meaning (book.now.rows.items)).curve k)) ≡ true }
+    requires { (k : ℕ) → k < count → IsOpen book.now.rows.items k }
     ensures { IfOk result (λ s. CurveLines book.now.rows.items count (string_bytes s)) }
 {
     let mut text = String::new(heap);
@@ -38,7 +36,7 @@ fn rows_text(heap: Global, rows: &[DueRow]) -> Result<String, AllocError>
     ensures { IfOk result (λ s. RowsText rows.now (length rows.now) (string_bytes s)) }
 {
     let count = rows.len();
-    let book = DueBook::new(Vec::from_slice(heap, rows)?);
+    let book = DueBook::of_rows(heap, rows)?;
     let mut text = curve_lines(heap, &book, count as u8)?;
     let last = rows_line(heap, count)?;
     text.push_str(last.as_str())?;

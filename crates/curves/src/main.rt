@@ -2,11 +2,8 @@
 #![tactic(auto)]
 
 use curve_report::report::curves_text;
-use reader::input::read_strip;
+use reader::input::{ENOUGH, read_strip};
 use std::io;
-
-// One byte more than a strip may have, so that a longer one is seen to be too long.
-const ENOUGH: usize = 4097;
 
 fn main(rt: HostRuntime) -> io::Result<()> {
     // Kept: a buffer of its own, which `read_strip` fills without the heap.

@@ -6,7 +6,7 @@ use std::io;
 use std::io::Read;
 
 // One byte more than a strip may have, so that a longer one is seen to be too long.
-const ENOUGH: u64 = 4097;
+pub const ENOUGH: usize = 4097;
 
 // Fills the buffer from its front until it is full or the input ends, and answers how many bytes came. Of an input
 // whose bytes are known: those stand at the buffer's front, and they are all of it where the buffer is not full. After
@@ -45,5 +45,5 @@ fn read_front<R: Read + Drop>(heap: Global, input: R, most: u64) -> io::Result<V
 pub fn read_whole<R: Read + Drop>(heap: Global, input: R) -> io::Result<Vec<u8>>
     ensures { IfOk result (λ v. IfSome (R.remaining input) (λ xs. v.items ≡ take 4097 xs)) }
 {
-    read_front(heap, input, ENOUGH)
+    read_front(heap, input, ENOUGH as u64)
 }

@@ -53,6 +53,7 @@ impl<S: Source> Route<S> {
     {
         let stops = self.stops.as_slice();
         Refusal::Place.refuse_if(is_outside(place, stops.len()))?;
+        // Kept: an index after the test, since the test is the examination that the rules name.
         let i = place - 1;
         Ok(self.told(i, stops[i]))
     }

@@ -123,6 +123,7 @@ impl StopTable {
         ensures room { length result ≡ 64 }
     {
         let mut marks = [0; 64];
+        // Kept: by number, since of what a `zip` over `iter_mut` writes a proof knows nothing (tried).
         for (i, stop) in self.stops.iter().enumerate() {
             marks[i] = stop.mark;
         }
@@ -134,6 +135,7 @@ impl StopTable {
         requires { length self.old ≤ length marks.now }
         ensures { self.new ≡ remarked self.old marks.now }
     {
+        // Kept: by number, as in `marks`.
         for (i, stop) in self.stops.as_mut_slice().iter_mut().enumerate() {
             stop.mark = marks[i];
         }

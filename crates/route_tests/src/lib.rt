@@ -11,6 +11,7 @@ mod tests {
     use source::due::{DueBook, DueRow};
     use source::pairing::Pairing;
     use std::alloc::{AllocError, Global};
+    use std::process::Abort;
     use std::test::Fail;
 
     const ROWS: [DueRow; 4] = [
@@ -88,28 +89,49 @@ mod tests {
         }
     }
 
+    // What is read of a route: the facts of all its stops, and its least cost.
+    fn reads(
+        rt: &(impl Abort + AllocGlobal),
+        route: &Route<DueBook>,
+        stops: &[Facts],
+        least: u64,
+    ) -> Result<(), Fail> {
+        assert_eq!(rt; route.stop_count(), stops.len());
+        for (i, stop) in stops.iter().enumerate() {
+            assert_eq!(rt; route.facts(i + 1)?, *stop);
+        }
+        assert_eq!(rt; route.least_cost().units(), least);
+        Ok(())
+    }
+
     // An empty route, then one stop, two, three, and two again.
     #[test]
     fn splices_one_by_one(rt: HostRuntime) -> Result<(), Fail> {
         let mut route = Route::open(rt.alloc(), book(rt.alloc(), &ROWS)?)?;
-        assert_eq!(rt; route.least_cost().units(), 0);
+        reads(&rt, &route, &[], 0)?;
         route.insert(1, 0, 0, 0)?;
-        assert_eq!(rt; route.facts(1)?, facts(0, 0, 600, 600));
-        assert_eq!(rt; route.least_cost().units(), 0);
+        reads(&rt, &route, &[facts(0, 0, 600, 600)], 0)?;
         route.insert(2, 1, 10, 0)?;
-        assert_eq!(rt; route.facts(1)?, facts(0, 0, 600, 595));
-        assert_eq!(rt; route.facts(2)?, facts(1, 10, 605, 605));
-        assert_eq!(rt; route.least_cost().units(), 5);
+        reads(
+            &rt,
+            &route,
+            &[facts(0, 0, 600, 595), facts(1, 10, 605, 605)],
+            5,
+        )?;
         route.insert(1, 2, 0, 6)?;
-        assert_eq!(rt; route.facts(1)?, facts(2, 0, 590, 590));
-        assert_eq!(rt; route.facts(2)?, facts(0, 6, 600, 596));
-        assert_eq!(rt; route.facts(3)?, facts(1, 10, 606, 606));
-        assert_eq!(rt; route.least_cost().units(), 6);
+        let three = [
+            facts(2, 0, 590, 590),
+            facts(0, 6, 600, 596),
+            facts(1, 10, 606, 606),
+        ];
+        reads(&rt, &route, &three, 6)?;
         route.remove(2, 20)?;
-        assert_eq!(rt; route.facts(2)?, facts(1, 20, 610, 610));
-        assert_eq!(rt; route.least_cost().units(), 10);
-        assert_eq!(rt; route.stop_count(), 2);
-        Ok(())
+        reads(
+            &rt,
+            &route,
+            &[facts(2, 0, 590, 590), facts(1, 20, 610, 610)],
+            10,
+        )
     }
 
     // A leg of 20 minutes just fits between two windows, one of 21 does not.
@@ -121,22 +143,33 @@ mod tests {
             route.insert(2, 2, 21, 0),
             Err(Refusal::NoTimetable { stop: 2 })
         );
-        assert_eq!(rt; route.stop_count(), 1);
+        reads(&rt, &route, &[facts(2, 0, 590, 590)], 0)?;
         route.insert(2, 2, 20, 0)?;
-        assert_eq!(rt; route.facts(1)?, facts(2, 0, 590, 590));
-        assert_eq!(rt; route.facts(2)?, facts(2, 20, 610, 610));
-        Ok(())
+        reads(
+            &rt,
+            &route,
+            &[facts(2, 0, 590, 590), facts(2, 20, 610, 610)],
+            0,
+        )
+    }
+
+    // By money the second stop comes late.
+    #[test]
+    fn by_money(rt: HostRuntime) -> Result<(), Fail> {
+        let mut money = Route::open(rt.alloc(), book(rt.alloc(), &ROWS)?)?;
+        money.insert(1, 3, 0, 0)?;
+        money.insert(2, 1, 10, 0)?;
+        reads(
+            &rt,
+            &money,
+            &[facts(3, 0, 600, 600), facts(1, 10, 610, 610)],
+            10,
+        )
     }
 
     // Minutes late come before money.
     #[test]
     fn money_and_promise(rt: HostRuntime) -> Result<(), Fail> {
-        let mut money = Route::open(rt.alloc(), book(rt.alloc(), &ROWS)?)?;
-        money.insert(1, 3, 0, 0)?;
-        money.insert(2, 1, 10, 0)?;
-        assert_eq!(rt; money.facts(1)?, facts(3, 0, 600, 600));
-        assert_eq!(rt; money.facts(2)?, facts(1, 10, 610, 610));
-        assert_eq!(rt; money.least_cost().units(), 10);
         let both = Pairing {
             first: book(rt.alloc(), &LATE)?,
             second: book(rt.alloc(), &ROWS)?,

@@ -1,4 +1,4 @@
-ghost use Rattle.std.specs.Prelude.{◌≡◌, ◌*◌};
+ghost use Rattle.std.specs.Prelude.{◌≡◌, ◌*◌, IfOk};
 ghost use Rattle.cost.specs.Amounts.{whole};
 ghost use Rattle.source.specs.Meaning.{Lawful};
 ghost use Rattle.source.specs.Books.{open_entry};
@@ -7,6 +7,7 @@ ghost use Rattle.source.specs.Due.{row_lawful, due_penalty, rated, lateness, due
 use crate::book::entry;
 use crate::source::Source;
 use cost::amount::Amount;
+use std::alloc::{AllocError, Global};
 
 // A row of the due book: the curve is open from `first` to `last`, and costs by how far a minute lies from `due`.
 #[derive(Clone, Copy, PartialEq, Eq, Debug, Default)]
@@ -79,6 +80,13 @@ impl DueBook {
         ensures { result.rows ≡ rows }
     {
         DueBook { rows }
+    }
+
+    // A book of rows that stay where they are.
+    pub fn of_rows(heap: Global, rows: &[DueRow]) -> Result<DueBook, AllocError>
+        ensures { IfOk result (λ book. book.rows.items ≡ rows.now) }
+    {
+        Ok(DueBook::new(Vec::from_slice(heap, rows)?))
     }
 
     // The row of an open curve.

@@ -7,7 +7,7 @@ use crate::source::Source;
 use cost::kind::Cost;
 
 // 2^40: no peak passes it.
-const HIGHEST_PEAK: u64 = 1099511627776;
+const HIGHEST_PEAK: u64 = 1 << 40;
 
 // The weights of the curves 0 to 63.
 // Kept: an array, since there are sixty-four, handed over together by value.

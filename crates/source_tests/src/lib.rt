@@ -143,7 +143,7 @@ mod tests {
 
     #[test]
     fn rows_past_the_last_curve(rt: HostRuntime) -> Result<(), Fail> {
-        let book = DueBook::new(vec![in rt.alloc(); row(0, 10, 5, 1, 1); 65]?);
+        let book = DueBook::of_rows(rt.alloc(), &[row(0, 10, 5, 1, 1); 65])?;
         assert_eq!(rt; book.window(63), Some((0, 10)));
         assert_eq!(rt; book.window(64), None);
         assert_eq!(rt; units(book.cost(63, 8)), Some(3));

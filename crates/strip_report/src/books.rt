@@ -11,13 +11,6 @@ fn late_rows(heap: Global, rows: &[DueRow]) -> Result<Vec<DueRow>, AllocError>
     rows.iter().map(|row| row.lateness()).collect(heap)
 }
 
-// The rows by money.
-pub(crate) fn money_book(heap: Global, rows: &[DueRow]) -> Result<DueBook, AllocError>
-    ensures { IfOk result (λ b. b.rows.items ≡ rows.now) }
-{
-    Ok(DueBook::new(Vec::from_slice(heap, rows)?))
-}
-
 // The rows by promise: minutes late, then money.
 pub(crate) fn promise_books(
     heap: Global,
@@ -26,7 +19,7 @@ pub(crate) fn promise_books(
     ensures { IfOk result (λ p. (p.first.rows.items ≡ map lateness rows.now) × (p.second.rows.items ≡ rows.now)) }
 {
     let late = late_rows(heap, rows)?;
-    let money = money_book(heap, rows)?;
+    let money = DueBook::of_rows(heap, rows)?;
     Ok(Pairing {
         first: DueBook::new(late),
         second: money,

@@ -1,7 +1,6 @@
 ghost use Rattle.std.specs.Prelude.{◌≡◌, ◌+◌, ◌-◌, ◌≤◌, min, ◌++◌, IfOk, string_bytes};
 ghost use Rattle.strip_report.specs.Joined.{joined_units, fault_in, joined_text, join_lines, JoinPrintsOnly};
 
-use crate::books::money_book;
 use crate::pieces::{ending, put_together};
 use crate::shown::show;
 use crate::text::fault_text;
@@ -11,6 +10,7 @@ use reader::lines::refusal_line;
 use reader::strip::Strip;
 use route::join::join;
 use route::stop::Refusal;
+use source::due::DueBook;
 use std::alloc::{AllocError, Global};
 
 // How many stops are joined: the first i of one route, and those of the other from place j on.
@@ -66,8 +66,12 @@ fn join_reports(
 ) -> Result<Vec<u8>, AllocError>
     ensures { IfOk result (λ v. JoinPrintsOnly first.now.bytes.now i leg second.now.bytes.now j v.items) }
 {
-    let a = show(heap, money_book(heap, first.rows.as_slice())?, first)?;
-    let b = show(heap, money_book(heap, second.rows.as_slice())?, second)?;
+    let a = show(heap, DueBook::of_rows(heap, first.rows.as_slice())?, first)?;
+    let b = show(
+        heap,
+        DueBook::of_rows(heap, second.rows.as_slice())?,
+        second,
+    )?;
     let count = joined_count(a.route.stop_count(), i, b.route.stop_count(), j);
     let joined = join(&a.route, i, leg, &b.route, j);
     let last = join_lines(heap, count, joined)?;

@@ -2,20 +2,20 @@ ghost use Rattle.std.specs.Prelude.{◌≡◌, IfOk};
 ghost use Rattle.reader.specs.FaultLine.{fault_line};
 ghost use Rattle.strip_report.specs.Printed.{strip_text, PrintsOnly};
 
-use crate::books::{money_book, promise_books};
+use crate::books::promise_books;
 use crate::pieces::{ending, put_together};
 use crate::shown::show;
 use reader::faults::Fault;
 use reader::lines::fault_line;
 use reader::strip::Strip;
+use source::due::DueBook;
 use std::alloc::{AllocError, Global};
 
 // What is printed of a strip whose rows are at fault.
 pub(crate) fn fault_text(heap: Global, fault: Fault) -> Result<Vec<u8>, AllocError>
     ensures { IfOk result (λ v. v.items ≡ fault_line fault) }
 {
-    let line = fault_line(heap, fault)?;
-    Vec::from_slice(heap, line.as_bytes())
+    Ok(fault_line(heap, fault)?.into_bytes())
 }
 
 // The two reports, each under its heading, and the last line.
@@ -38,7 +38,7 @@ fn both_reports(heap: Global, strip: &Strip<'_>) -> Result<Vec<u8>, AllocError>
     ensures { IfOk result (λ v. PrintsOnly strip.now.bytes.now v.items) }
 {
     let rows = strip.rows.as_slice();
-    let money = show(heap, money_book(heap, rows)?, strip)?;
+    let money = show(heap, DueBook::of_rows(heap, rows)?, strip)?;
     let promise = show(heap, promise_books(heap, rows)?, strip)?;
     strip_lines(
         heap,

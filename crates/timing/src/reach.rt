@@ -29,7 +29,8 @@ pub fn first_blocked<L: Line>(line: &L) -> Option<usize>
     None
 }
 
-// The first and the last minute of the window of stop i; an absent window is the empty one, from 1 to 0.
+// The first and the last minute of the window of stop i.
+// Kept: an absent window as the empty one, from 1 to 0, since a visit has it so.
 pub(crate) fn span<L: Line>(line: &L, i: usize) -> (u16, u16)
     ensures first { result.0 ≡ (at L.Kind.Cost.algebra (L.visits line.now) i).first }
     ensures last { result.1 ≡ (at L.Kind.Cost.algebra (L.visits line.now) i).last }

@@ -36,11 +36,11 @@ returns c =
     let result = joined_units c.join-joined.result in
     let n = c.joined_count-count.result in
     let x : (v : StripReport whole decimal (due_meaning rows) strip from r a) × (ps ≡ map told v.facts) =
-    subst (λ (l : List DueRow). (v : StripReport whole decimal (due_meaning l) strip from r a) × (ps ≡ map told v.facts)) (c.in_ok-money_book.ensures ∙ c.as_slice.ensures.value) (shown.told_by, shown.stops) in
+    subst (λ (l : List DueRow). (v : StripReport whole decimal (due_meaning l) strip from r a) × (ps ≡ map told v.facts)) (c.in_ok-of_rows.ensures ∙ c.as_slice.ensures.value) (shown.told_by, shown.stops) in
     let y : (v : StripReport whole decimal (due_meaning more) other at s b) × (qs ≡ map told v.facts) =
-    subst (λ (l : List DueRow). (v : StripReport whole decimal (due_meaning l) other at s b) × (qs ≡ map told v.facts)) (c.in_ok-money_book-2.ensures ∙ c.as_slice-2.ensures.value) (shown-too.told_by, shown-too.stops) in
-    let book : vec_items one.route.source.rows ≡ rows = ap (λ (k : DueBook). vec_items k.rows) shown.source ∙ c.in_ok-money_book.ensures ∙ c.as_slice.ensures.value in
-    let book-too : vec_items two.route.source.rows ≡ more = ap (λ (k : DueBook). vec_items k.rows) shown-too.source ∙ c.in_ok-money_book-2.ensures ∙ c.as_slice-2.ensures.value in
+    subst (λ (l : List DueRow). (v : StripReport whole decimal (due_meaning l) other at s b) × (qs ≡ map told v.facts)) (c.in_ok-of_rows-2.ensures ∙ c.as_slice-2.ensures.value) (shown-too.told_by, shown-too.stops) in
+    let book : vec_items one.route.source.rows ≡ rows = ap (λ (k : DueBook). vec_items k.rows) shown.source ∙ c.in_ok-of_rows.ensures ∙ c.as_slice.ensures.value in
+    let book-too : vec_items two.route.source.rows ≡ more = ap (λ (k : DueBook). vec_items k.rows) shown-too.source ∙ c.in_ok-of_rows-2.ensures ∙ c.as_slice-2.ensures.value in
     let judged : JoinJudged whole (due_meaning rows) ps i leg (due_meaning more) qs j result =
     subst (λ (l : List DueRow). JoinJudged whole (due_meaning rows) ps i leg (due_meaning l) qs j result) book-too
     (subst (λ (l : List DueRow). JoinJudged whole (due_meaning l) ps i leg (due_meaning (vec_items two.route.source.rows)) qs j result) book c.join-joined.ensures) in

@@ -23,7 +23,7 @@ returns c =
     let held : strip_answer strip ≡ Ok (rows, from) = subst (λ (l : List DueRow). strip_answer strip ≡ Ok (l, from)) (sym c.as_slice-rows.ensures.value) c.args.strip.now.held in
     let books = c.in_ok-promise_books.ensures in
     let by_money : StripReport whole decimal (due_meaning rows) strip from r m =
-    subst (λ (l : List DueRow). StripReport whole decimal (due_meaning l) strip from r m) c.in_ok-money_book.ensures c.in_ok-money.ensures.told_by in
+    subst (λ (l : List DueRow). StripReport whole decimal (due_meaning l) strip from r m) c.in_ok-of_rows.ensures c.in_ok-money.ensures.told_by in
     let by_promise : StripReport (paired whole whole) both (promised rows) strip from s p =
     subst (λ (l : List DueRow). StripReport (paired whole whole) both (pairing (due_meaning (map lateness rows)) (due_meaning l)) strip from s p) books.1
     (subst (λ (l : List DueRow). StripReport (paired whole whole) both (pairing (due_meaning l) (due_meaning (vec_items c.in_ok-promise_books.field-0.second.rows))) strip from s p) books.0 c.in_ok-promise.ensures.told_by) in
