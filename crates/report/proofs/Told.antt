@@ -1,25 +1,13 @@
 -- The facts of all stops of a route, one stop at a time. Assumes nothing.
-use Rattle.std.proofs.Common.{◌≡◌, ℕ, zero, suc, ◌+◌, ◌-◌, ◌<◌, ◌||◌, Bool, false, cond, ltb, Err, List, [], ◌∷◌, ◌++◌, length, get_or, take, set, Ok, sym, refl, ap, ◌∙◌, arith}
+use Rattle.std.proofs.Common.{◌≡◌, ℕ, zero, suc, ◌+◌, ◌<◌, List, [], ◌∷◌, ◌++◌, length, get_or, take, set, Ok, sym, refl, ap, ◌∙◌, arith}
 use Rattle.std.proofs.lemmas.List.{take_more, take_more_set}
 use Rattle.cost.specs.Algebra.{Algebra}
 use Rattle.source.specs.Meaning.{Meaning}
 use Rattle.route.specs.declared.stop.Stop.{Stop}
 use Rattle.route.specs.declared.stop.Facts.{Facts}
-use Rattle.route.specs.declared.stop.Refusal.TheVariants.{Place}
-use Rattle.route.specs.Judged.{outside}
-use Rattle.std.proofs.lemmas.Bool.{le-ltb}
 use Rattle.route.specs.Calls.{blank, facts_of, facts_at, timed}
-use Rattle.route.proofs.Runnings.{length_timed}
+use Rattle.route.proofs.Runnings.{facts_there, length_timed}
 use Rattle.report.specs.Routes.{all_facts, route_facts}
-
-facts_there : (ss : List Stop) (ts : List ℕ) (i : ℕ) → i < length ss → facts_at ss ts (i + 1) ≡ Ok (facts_of (get_or ss i blank) (get_or ts i 0))
-facts_there ss ts i h =
-    let a : ltb (i + 1) 1 ≡ false = le-ltb (i + 1) 1 (omega arith) in
-    let b : ltb (length ss) (i + 1) ≡ false = le-ltb (length ss) (i + 1) (omega arith) in
-    let e : outside (i + 1) (length ss) ≡ false = ap (λ (x : Bool). x || ltb (length ss) (i + 1)) a ∙ b in
-    let z : i + 1 - 1 ≡ i = omega arith in
-    ap (λ (x : Bool). cond x (Err Place) (Ok (facts_of (get_or ss (i + 1 - 1) blank) (get_or ts (i + 1 - 1) 0)))) e
-    ∙ ap (λ (k : ℕ). Ok (facts_of (get_or ss k blank) (get_or ts k 0))) z
 
 all_facts_length : (ss : List Stop) (ts : List ℕ) → length ts ≡ length ss → length (all_facts ss ts) ≡ length ss
 all_facts_length [] ts h = refl

@@ -9,7 +9,7 @@ use Rattle.route.specs.Table.{plain, plains, marks, Marked}
 use Rattle.route.specs.Calls.{timed}
 use Rattle.route.specs.Guarantee.{told, told_mark, told_minute}
 use Rattle.route.specs.Runs.{Told}
-use Rattle.timing.specs.Marks.{Marks}
+use Rattle.route.proofs.Joinings.{no_marks}
 use Rattle.route.proofs.Runnings.{length_timed, ran}
 use Rattle.report.specs.Routes.{all_facts, route_facts}
 use Rattle.reader.specs.declared.faults.Fault.{Fault}
@@ -17,9 +17,6 @@ use Rattle.reader.specs.CallLaws.{answers_in, RunsExactly}
 use Rattle.reader.specs.Running.{begin, Calls}
 use Rattle.reader.specs.Ran.{Ran}
 use Rattle.strip_report.specs.Shown.{ReportOf, Shows}
-
-no_marks : {E : Type 0} (K : Algebra E) → Marks K [] []
-no_marks K = record { many = refl; each = λ i h. absurd (omega arith) }
 
 facts_told : (ss : List Stop) (ts : List ℕ) → length ts ≡ length ss
     → (map told (all_facts ss ts) ≡ plains ss) × (map told_mark (all_facts ss ts) ≡ marks ss) × (map told_minute (all_facts ss ts) ≡ ts)
