@@ -20,6 +20,9 @@ put_append (x ∷ xs) ys buf i = put_append xs ys (slice_set buf i x) (i + 1) �
 pub wrote_keeps : (x : Writer) (xs : List ℕ) → length (wrote x xs).buf.now ≡ length x.buf.now
 wrote_keeps x xs = length_put xs x.buf.now x.at
 
+pub wrote_none : (x : Writer) → wrote x [] ≡ x
+wrote_none x = ap (λ (n : ℕ). record { buf = x.buf; at = n }) (omega arith)
+
 pub wrote_joins : (x : Writer) (xs ys : List ℕ) → wrote (wrote x xs) ys ≡ wrote x (xs ++ ys)
 wrote_joins x xs ys =
     ap (λ (n : ℕ). record { buf = (wrote (wrote x xs) ys).buf; at = n }) (omega (arith, length-append xs ys))
@@ -32,5 +35,6 @@ writing = record {
   after = wrote;
   ends = λ x xs. refl;
   keeps = wrote_keeps;
+  stays = wrote_none;
   joins = wrote_joins;
 }

@@ -57,6 +57,7 @@ impl Text for u64 {
 impl<A: Text, B: Text> Text for Pair<A, B> {
     ghost bytes = { λ p. spaced (A.bytes p.first) (B.bytes p.second) };
 
+    #[tactic(auto, using(crate::proofs::Pieces::puts_spaced))]
     fn put<T: Target>(&self, target: &mut T) -> Option<()> {
         self.first.put(target)?;
         target.put(b" ")?;
