@@ -1,4 +1,3 @@
 pub mod Steps
-pub mod Looks
 pub mod Exact
 pub mod Bent

@@ -1,9 +1,8 @@
 -- Steps that never fall over bends, never fall over minutes. Assumes nothing.
-use Rattle.std.proofs.Common.{◌≡◌, ℕ, suc, ◌+◌, ◌-◌, ◌<◌, ◌≤◌, Bool, true, false, cond, leb, List, [], ◌∷◌, ◌++◌, length, get_or, take, ℤ, pos, ◌+ℤ◌, ◌≤ℤ◌, sym, refl, ap, ◌∙◌, add-one, arith}
+use Rattle.std.proofs.Common.{◌≡◌, ℕ, zero, suc, ◌+◌, ◌-◌, ◌<◌, ◌≤◌, Bool, true, false, cond, leb, List, [], ◌∷◌, ◌++◌, Some, IfSome, slice_get, ℤ, pos, ◌+ℤ◌, ◌≤ℤ◌, sym, refl, ap, ◌∙◌, add-one, arith}
 use Rattle.std.specs.Int.{int_min}
 use Rattle.std.proofs.lemmas.Int.{ints}
-use Rattle.std.proofs.lemmas.List.{take_more}
-use Rattle.std.proofs.lemmas.Bool.{leb-true, le-leb}
+use Rattle.std.proofs.lemmas.Bool.{leb-true, le-leb, lt-leb, cond-true, cond-false}
 use Rattle.bend_book.specs.Bends.{step_after, step_at, cost_after, lowest_after}
 use Rattle.bend_book.specs.declared.bend.Bend.{Bend}
 
@@ -28,18 +27,23 @@ step_mono [] s t u v l h r = h
 step_mono (b ∷ bs) s t u v l h r =
     at_mono bs s t b.step u v (leb b.minute u) (leb b.minute v) (λ s t h r. step_mono bs s t u v l h r) h r.0 r.1 (λ e. le-leb _ _ (omega (arith, leb-true _ _ e)))
 
-pub step_push : (bs : List Bend) (s : ℤ) (b : Bend) (u : ℕ) → step_after s (bs ++ (b ∷ [])) u ≡ cond (leb b.minute u) b.step (step_after s bs u)
-step_push [] s b u = refl
-step_push (a ∷ bs) s b u = step_push bs (cond (leb a.minute u) a.step s) b u
+-- bends that all come later leave the step
+pub unmoved : (bs : List Bend) (s : ℤ) (u : ℕ) → ((k : ℕ) → IfSome (slice_get bs k) (λ b. u < b.minute)) → step_after s bs u ≡ s
+unmoved [] s u f = refl
+unmoved (b ∷ bs) s u f = ap (λ (z : ℤ). step_after z bs u) (cond-false (leb b.minute u) b.step s (lt-leb _ _ (f 0))) ∙ unmoved bs s u (λ k. f (suc k))
 
--- one bend more
-pub step_next : (bs : List Bend) (i : ℕ) (d : Bend) (u : ℕ) → i < length bs → step_at (take (i + 1) bs) u ≡ cond (leb (get_or bs i d).minute u) (get_or bs i d).step (step_at (take i bs) u)
-step_next bs i d u h = ap (λ (l : List Bend). step_at l u) (take_more bs i d h) ∙ step_push (take i bs) (pos 0) (get_or bs i d) u
+-- the last that does not gives its own
+pub moved : (bs : List Bend) (s : ℤ) (u i : ℕ) (b : Bend) → slice_get bs i ≡ Some b → b.minute ≤ u → ((k : ℕ) → i < k → IfSome (slice_get bs k) (λ c. u < c.minute)) → step_after s bs u ≡ b.step
+moved [] s u i b e h f = cc
+moved (a ∷ bs) s u zero b e h f =
+    let same : a ≡ b = cc in
+    ap (λ (z : ℤ). step_after z bs u) (cond-true (leb a.minute u) a.step s (le-leb _ _ (omega (arith, ap (λ (c : Bend). c.minute) same)))) ∙ unmoved bs a.step u (λ k. f (suc k) (omega arith)) ∙ ap (λ (c : Bend). c.step) same
+moved (a ∷ bs) s u (suc i) b e h f = moved bs (cond (leb a.minute u) a.step s) u i b e h (λ k l. f (suc k) (omega arith))
 
+-- one minute more
 pub cost_next : (start : ℕ) (bs : List Bend) (first n : ℕ) → cost_after start bs first (n + 1) ≡ cost_after start bs first n +ℤ step_at bs (first + n)
 cost_next start bs first n = ap (cost_after start bs first) (add-one n)
 
--- one minute more
 pub cost_step : (start : ℕ) (bs : List Bend) (first u : ℕ) → first ≤ u → cost_after start bs first ((u + 1) - first) ≡ cost_after start bs first (u - first) +ℤ step_at bs u
 cost_step start bs first u h =
     let e : (u + 1) - first ≡ (u - first) + 1 = omega arith in

@@ -1,5 +1,5 @@
 -- Costs that bend: the step at a minute, and the cost by minutes. Assumes nothing.
-use Rattle.std.specs.Prelude.{ℕ, zero, suc, ◌+◌, ◌-◌, cond, List, [], ◌∷◌, take, drop, ℤ, pos, ◌+ℤ◌, nat_le, unsigned_abs}
+use Rattle.std.specs.Prelude.{◌≡◌, ℕ, zero, suc, ◌+◌, ◌-◌, ◌<◌, ◌≤◌, Option, Some, MatchOption, IfSome, slice_get, cond, List, [], ◌∷◌, take, drop, ℤ, pos, ◌+ℤ◌, nat_le, unsigned_abs}
 use Rattle.std.specs.Int.{int_min}
 use Rattle.bend_book.specs.declared.bend.Bend.{Bend}
 use Rattle.bend_book.specs.declared.bend.BendHead.{BendHead}
@@ -12,6 +12,11 @@ step_after s (b ∷ bs) u = step_after (cond (nat_le b.minute u) b.step s) bs u
 -- the step of the last bend whose minute is at most u, or 0
 abbrev pub step_at : List Bend → ℕ → ℤ
 step_at bs u = step_after (pos 0) bs u
+
+-- b is the last of the bends whose minute is at most u; where there is none, each comes later
+abbrev pub LastUntil : ℕ → List Bend → Option Bend → Type 0
+LastUntil u bs r = MatchOption r ((k : ℕ) → IfSome (slice_get bs k) (λ b. u < b.minute))
+    (λ b. (i : ℕ) × (slice_get bs i ≡ Some b) × (b.minute ≤ u) × ((k : ℕ) → i < k → IfSome (slice_get bs k) (λ b. u < b.minute)))
 
 -- the cost n minutes after the first: at first it is start, and each minute adds the step at the minute before
 abbrev pub cost_after : ℕ → List Bend → ℕ → ℕ → ℤ

@@ -2,7 +2,8 @@ ghost use Rattle.std.specs.Prelude.{◌≡◌, ◌-◌, ◌^◌, ◌≤◌, unsi
 ghost use Rattle.cost.specs.Amounts.{whole};
 ghost use Rattle.source.specs.Meaning.{Lawful};
 ghost use Rattle.source.specs.Books.{open_entry};
-ghost use Rattle.bend_book.specs.Bends.{step_at, lowest_after, own_bends, cost_at, bend_penalty};
+ghost use Rattle.std.specs.Option.{option_map};
+ghost use Rattle.bend_book.specs.Bends.{LastUntil, step_at, lowest_after, own_bends, cost_at, bend_penalty};
 ghost use Rattle.bend_book.specs.HeadTest.{head_limits, bend_fits, each_fits, follows, orderly, own_lawful, head_lawful, TestExact};
 ghost use Rattle.bend_book.specs.BendBook.{BendConvex, bend_meaning};
 
@@ -50,70 +51,94 @@ impl Bend {
     }
 }
 
-// The step of the last bend whose minute is at most `minute`, or 0.
-fn step_at(bends: &[Bend], minute: u16) -> i16
-    ensures { result ≡ step_at bends.now minute }
-{
-    let mut step = 0;
-    for bend in bends {
-        if bend.minute <= minute {
-            step = bend.step;
+// A head and its own bends.
+#[derive(Clone, Copy)]
+struct Curve<'a> {
+    head: BendHead,
+    bends: &'a [Bend],
+}
+
+impl Curve<'_> {
+    // The last bend whose minute is at most `minute`.
+    fn last_until(&self, minute: u16) -> Option<&Bend>
+        ensures { LastUntil minute self.now.bends.now (option_map (λ b. b.now) result) }
+    {
+        self.bends.iter().rev().find(|bend| bend.minute <= minute)
+    }
+
+    // The step of the last bend whose minute is at most `minute`, or 0.
+    #[tactic(auto, using(crate::proofs::Steps::unmoved, crate::proofs::Steps::moved))]
+    fn step_at(&self, minute: u16) -> i16
+        ensures { result ≡ step_at self.now.bends.now minute }
+    {
+        self.last_until(minute).map_or(0, |bend| bend.step)
+    }
+
+    // The cost at a minute, below 0 or not, and the least cost from the first minute to it.
+    #[tactic(auto, using(crate::proofs::Bent::bend_convex))]
+    fn cost_and_lowest(&self, minute: u16) -> (i64, i64)
+        ensures cost { result.0 ≡ cost_at self.now.head self.now.bends.now minute }
+        ensures lowest { result.1 ≡ lowest_after self.now.head.start self.now.bends.now self.now.head.first (minute - self.now.head.first) }
+        ensures bound { unsigned_abs result.0 ≤ 2 ^ 33 }
+        ensures convex { BendConvex }
+    {
+        let mut cost = i64::from(self.head.start);
+        let mut lowest = cost;
+        for passed in self.head.first..minute {
+            cost += i64::from(self.step_at(passed));
+            lowest = lowest.min(cost);
+        }
+        (cost, lowest)
+    }
+
+    // The least cost in the window.
+    fn lowest(&self) -> i64
+        ensures { result ≡ lowest_after self.now.head.start self.now.bends.now self.now.head.first (self.now.head.last - self.now.head.first) }
+    {
+        let (_, lowest) = self.cost_and_lowest(self.head.last);
+        lowest
+    }
+
+    fn each_fits(&self) -> bool
+        ensures { result ≡ each_fits self.now.head.last self.now.bends.now }
+    {
+        self.bends.iter().all(|bend| bend.fits(self.head.last))
+    }
+
+    // Whether the first bend's minute is the head's, and each other bend follows the one before.
+    fn is_orderly(&self) -> bool
+        ensures { result ≡ orderly self.now.head.first self.now.bends.now }
+    {
+        match self.bends {
+            [] => true,
+            [bend, ..] => bend.minute == self.head.first
+                && self.bends.is_sorted_by(|a, b| a.rises_to(b)),
         }
     }
-    step
-}
 
-fn each_fits(bends: &[Bend], last: u16) -> bool
-    ensures { result ≡ each_fits last bends.now }
-{
-    bends.iter().all(|bend| bend.fits(last))
-}
-
-// Whether the first bend's minute is `first`, and each other bend follows the one before.
-fn is_orderly(bends: &[Bend], first: u16) -> bool
-    ensures { result ≡ orderly first bends.now }
-{
-    match bends {
-        [] => true,
-        [bend, ..] => bend.minute == first && bends.is_sorted_by(|a, b| a.rises_to(b)),
+    // Whether the bends are all there, in order and within their limits, and keep every cost of the window at 0 or above.
+    fn has_lawful_bends(&self) -> bool
+        ensures { result ≡ own_lawful self.now.head self.now.bends.now }
+    {
+        self.bends.len() == usize::from(self.head.count)
+            && self.is_orderly()
+            && self.each_fits()
+            && self.lowest() >= 0
     }
 }
 
 impl BendHead {
-    // The head's bends, as far as the table has them; that the test of a head is exact rests here.
-    fn own<'a>(&self, table: &'a [Bend]) -> &'a [Bend]
-        ensures value { result.now ≡ own_bends table.now self.now }
+    // The head with its bends, as far as the table has them; that the test of a head is exact rests here.
+    #[tactic(auto, using(crate::proofs::Exact::test_exact))]
+    fn curve<'a>(&self, table: &'a [Bend]) -> Curve<'a>
+        ensures head { result.head ≡ self.now }
+        ensures bends { result.bends.now ≡ own_bends table.now self.now }
         ensures exact { TestExact }
     {
-        let from = table.len().min(self.from as usize);
-        let end = table.len().min(self.from as usize + self.count as usize);
-        &table[from..end]
-    }
-
-    // The cost at a minute by the head's bends, below 0 or not.
-    fn cost_at(&self, bends: &[Bend], minute: u16) -> i64
-        ensures value { result ≡ cost_at self.now bends.now minute }
-        ensures bound { unsigned_abs result ≤ 2 ^ 33 }
-        ensures convex { BendConvex }
-    {
-        let mut cost = i64::from(self.start);
-        for passed in self.first..minute {
-            cost += i64::from(step_at(bends, passed));
-        }
-        cost
-    }
-
-    // The least cost in the window by the head's bends.
-    fn lowest(&self, bends: &[Bend]) -> i64
-        ensures { result ≡ lowest_after self.now.start bends.now self.now.first (self.now.last - self.now.first) }
-    {
-        let mut cost = i64::from(self.start);
-        let mut lowest = cost;
-        for passed in self.first..self.last {
-            cost += i64::from(step_at(bends, passed));
-            lowest = lowest.min(cost);
-        }
-        lowest
+        // Kept: a cast, since usize has no `From<u32>`, and `try_from` would want an answer for a failure that never comes.
+        let rest = table.get(self.from as usize..).unwrap_or_default();
+        let bends = rest.get(..usize::from(self.count)).unwrap_or(rest);
+        Curve { head: *self, bends }
     }
 
     // The limits that a head keeps by itself.
@@ -123,23 +148,13 @@ impl BendHead {
         self.first <= self.last && self.last <= 1440 && self.start <= 500000 && self.count <= 16
     }
 
-    // Whether the bends are all there, in order and within their limits, and keep every cost of the window at 0 or above.
-    fn suits(&self, bends: &[Bend]) -> bool
-        ensures { result ≡ own_lawful self.now bends.now }
-    {
-        bends.len() == self.count as usize
-            && is_orderly(bends, self.first)
-            && each_fits(bends, self.last)
-            && self.lowest(bends) >= 0
-    }
-
     // Whether the curve is open; the test is true exactly when every condition on a head holds.
     pub fn lawful(&self, table: &[Bend]) -> bool
         ensures value { result ≡ head_lawful table.now self.now }
         ensures exact { TestExact }
     {
-        let bends = self.own(table);
-        self.in_limits() && self.suits(bends)
+        let curve = self.curve(table);
+        self.in_limits() && curve.has_lawful_bends()
     }
 
     // What the minute costs by this head; every lawful head's curve is convex.
@@ -148,7 +163,8 @@ impl BendHead {
         ensures bound { result ≤ 2 ^ 33 }
         ensures convex { BendConvex }
     {
-        self.cost_at(self.own(table), minute).unsigned_abs()
+        let (cost, _) = self.curve(table).cost_and_lowest(minute);
+        cost.unsigned_abs()
     }
 }
 
@@ -172,7 +188,7 @@ impl BendBook {
         ensures value { result ≡ 2097152 }
         ensures lawful { Lawful whole (bend_meaning self.now.bends.items self.now.heads.items) }
     {
-        2097152
+        1 << 21
     }
 }
 
