@@ -101,7 +101,7 @@ impl DueBook {
         ensures value { result ≡ 2097152 }
         ensures lawful { Lawful whole (due_meaning self.now.rows.items) }
     {
-        2097152
+        1 << 21
     }
 }
 
