@@ -1,7 +1,6 @@
-ghost use Rattle.std.specs.Prelude.{◌≡◌, ◌+◌, ◌<◌, ◌≤◌, min, length};
+ghost use Rattle.std.specs.Prelude.{◌≡◌, ◌+◌, ◌<◌, length};
 ghost use Rattle.timing.specs.Visits.{at};
-ghost use Rattle.timing.specs.Timetables.{Feasible};
-ghost use Rattle.timing.specs.Reach.{served, reached, BlockedAt, Blocked};
+ghost use Rattle.timing.specs.Reach.{served, reached, Blocked};
 
 use crate::line::Line;
 

@@ -1,4 +1,4 @@
-ghost use Rattle.std.specs.Prelude.{◌≡◌, ℕ, ◌-◌};
+ghost use Rattle.std.specs.Prelude.{◌≡◌, ℕ};
 ghost use Rattle.timing_tests.specs.declared.due.Due.{Due as DueStop};
 ghost use Rattle.timing_tests.specs.Dues.{money, promise};
 
