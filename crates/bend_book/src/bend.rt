@@ -40,7 +40,7 @@ impl Bend {
     fn fits(&self, last: u16) -> bool
         ensures { result ≡ bend_fits last self.now }
     {
-        self.minute <= last && self.step >= -1000 && self.step <= 1000
+        self.minute <= last && (-1000..=1000).contains(&self.step)
     }
 
     // Whether `next` comes at a later minute, with no smaller step.
@@ -180,7 +180,7 @@ impl BendBook {
     fn open_head(&self, curve: u8) -> Option<BendHead>
         ensures { result ≡ open_entry (head_lawful self.now.bends.items) self.now.heads.items curve }
     {
-        entry(self.heads.as_slice(), curve).filter(|head| head.lawful(self.bends.as_slice()))
+        entry(&self.heads, curve).filter(|head| head.lawful(&self.bends))
     }
 
     // 2^21: a lawful head starts at no more than 500000 and adds at most 1000 a minute, over at most 1440 minutes.
@@ -205,10 +205,9 @@ impl Source for BendBook {
 
     fn cost(&self, curve: u8, minute: u16) -> Option<Amount> {
         let head = self.open_head(curve)?;
-        (head.first <= minute && minute <= head.last).then(|| Amount::new(head.penalty(
-            self.bends.as_slice(),
-            minute,
-        )))
+        (head.first..=head.last)
+            .contains(&minute)
+            .then(|| Amount::new(head.penalty(&self.bends, minute)))
     }
 
     fn peak(&self) -> u64 {
