@@ -15,3 +15,4 @@ pub mod Marking
 pub mod Blocks
 pub mod Refreshing
 pub mod Sounds
+pub mod Stated

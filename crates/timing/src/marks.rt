@@ -99,11 +99,11 @@ fn write_mark<L: Line>(line: &L, marks: &mut [u16], i: usize, soonest: u16)
         let vs = L.visits line.now in
         Sound K vs → Feasible vs → i < length vs → soonest ≡ reached vs (i + 1) → Marks K (take i vs) (take i marks.old) → Marks K (take (i + 1) vs) (take (i + 1) marks.new) }
 {
-    // Kept: by its number, since `split_last_mut`, tried, adds a branch that never runs, and wants lemmas on what it puts back.
     let front = MarkedLine {
         line,
         marks: &marks[..i],
     };
+    // Kept: by its number, since `split_last_mut`, tried, adds a branch that never runs, and wants lemmas on what it puts back.
     marks[i] = front.mark_from(soonest);
 }
 
