@@ -39,7 +39,7 @@ impl<L: Line> MarkedLine<'_, L> {
     }
 
     // The minute of stop j, where the next stop with a mark is served at minute `next`.
-    #[tactic(auto, using(crate::proofs::Timings::minutes_last))]
+    #[tactic(auto, using(crate::proofs::Timings::minutes_last, crate::proofs::Timings::minutes_step))]
     fn minute_before(&self, j: usize, next: u16) -> u16
         requires { (j < length (L.visits self.now.line.now)) × (j < length self.now.marks.now) }
         ensures { let ts = minutes (L.visits self.now.line.now) self.now.marks.now in
