@@ -32,7 +32,7 @@ pub unmoved : (bs : List Bend) (s : ℤ) (u : ℕ) → ((k : ℕ) → IfSome (sl
 unmoved [] s u f = refl
 unmoved (b ∷ bs) s u f = ap (λ (z : ℤ). step_after z bs u) (cond-false (leb b.minute u) b.step s (lt-leb _ _ (f 0))) ∙ unmoved bs s u (λ k. f (suc k))
 
--- the last that does not gives its own
+-- the last bend that does not come later gives its own step
 pub moved : (bs : List Bend) (s : ℤ) (u i : ℕ) (b : Bend) → slice_get bs i ≡ Some b → b.minute ≤ u → ((k : ℕ) → i < k → IfSome (slice_get bs k) (λ c. u < c.minute)) → step_after s bs u ≡ b.step
 moved [] s u i b e h f = cc
 moved (a ∷ bs) s u zero b e h f =
