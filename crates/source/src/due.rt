@@ -93,7 +93,7 @@ impl DueBook {
     fn open_row(&self, curve: u8) -> Option<DueRow>
         ensures { result ≡ open_entry row_lawful self.now.rows.items curve }
     {
-        entry(self.rows.as_slice(), curve).filter(|row| row.lawful())
+        entry(&self.rows, curve).filter(|row| row.lawful())
     }
 
     // 2^21: a lawful row costs at most 1000 a minute, over at most 1440 minutes.
@@ -118,7 +118,9 @@ impl Source for DueBook {
 
     fn cost(&self, curve: u8, minute: u16) -> Option<Amount> {
         let row = self.open_row(curve)?;
-        (row.first <= minute && minute <= row.last).then(|| Amount::new(row.penalty(minute)))
+        (row.first..=row.last)
+            .contains(&minute)
+            .then(|| Amount::new(row.penalty(minute)))
     }
 
     fn peak(&self) -> u64 {
