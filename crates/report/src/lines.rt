@@ -25,6 +25,7 @@ pub(crate) struct StopLines<'a> {
 impl<'a> Text for StopLines<'a> {
     ghost bytes = { λ lines. count_line (length lines.facts.now) ++ stop_lines 1 lines.facts.now };
 
+    #[tactic(auto, using(crate::proofs::Stops::stops_more, crate::proofs::Stops::stops_full, crate::proofs::Stops::count_full))]
     fn put<T: Target>(&self, target: &mut T) -> Option<()> {
         let count = (*b"stops ", self.facts.len() as u64);
         (count, *b"\n").put(target)?;

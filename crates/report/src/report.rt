@@ -12,6 +12,7 @@ use route::stop::Facts;
 
 // Writes the report of stops with these facts and of their least cost into the buffer, and answers its length.
 // A report longer than the buffer is refused, and the buffer stays as it was.
+#[tactic(auto, using(crate::proofs::Lengths::report_bound))]
 pub fn write_report<E, K: Written<E>>(
     facts: &[Facts],
     least: K,
