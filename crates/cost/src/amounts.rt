@@ -1,4 +1,4 @@
-ghost use Rattle.std.specs.Prelude.{◌≡◌, ℕ, ◌+◌, ◌*◌, ◌^◌, ◌≤◌};
+ghost use Rattle.std.specs.Prelude.{◌≡◌, ◌+◌, ◌*◌, ◌^◌};
 ghost use Rattle.cost.specs.Amounts.{whole, capped};
 ghost use Rattle.std.proofs.Common.{arith, rules};
 ghost use Rattle.cost.specs.Folds.{fold_whole};

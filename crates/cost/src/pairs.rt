@@ -1,4 +1,4 @@
-ghost use Rattle.std.specs.Prelude.{◌≡◌, ℕ, ◌+◌, ◌*◌, ◌^◌, ◌≤◌};
+ghost use Rattle.std.specs.Prelude.{◌*◌, ◌^◌, ◌≤◌};
 ghost use Rattle.std.proofs.Common.{sym, ◌∙◌, arith, mul-le-mul_left};
 ghost use Rattle.cost.specs.Pairs.{paired};
 ghost use Rattle.std.proofs.Math.Nat.{le-max_left, le-max_right};
