@@ -1,6 +1,7 @@
 use crate::amount::Amount;
 use crate::kind::Cost;
 use crate::pair::Pair;
+use crate::target::Measure;
 use crate::text::Text;
 use crate::written::Written;
 
@@ -58,4 +59,19 @@ fn the_largest_number_has_twenty_digits(rt: HostRuntime) {
     assert!(rt; buf == *b"18446744073709551615");
     assert_eq!(rt; u64::MAX.fits(20), Some(0));
     assert_eq!(rt; u64::MAX.fits(19), None);
+}
+
+#[test]
+fn a_text_of_texts_is_written_in_order(rt: HostRuntime) {
+    let line = (*b"least ", (7, *b"\n"));
+    let mut buf = [b'-'; 9];
+    assert_eq!(rt; line.write(&mut buf, 0), Some(8));
+    assert!(rt; buf == *b"least 7\n-");
+}
+
+#[test]
+fn of_a_text_that_does_not_fit_a_front_is_taken(rt: HostRuntime) {
+    let mut measure = Measure { at: 0, size: 3 };
+    assert_eq!(rt; pair(10, 255).to_text().put(&mut measure), None);
+    assert_eq!(rt; measure, Measure { at: 3, size: 3 });
 }

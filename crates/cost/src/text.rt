@@ -1,4 +1,4 @@
-ghost use Rattle.std.specs.Prelude.{◌≡◌, ℕ, List, length, decimal};
+ghost use Rattle.std.specs.Prelude.{◌≡◌, ℕ, List, ◌++◌, length, decimal};
 ghost use Rattle.cost.specs.Targets.{Puts};
 ghost use Rattle.cost.specs.Texts.{left, after, laid, spaced};
 
@@ -54,6 +54,27 @@ impl Text for u64 {
     }
 }
 
+// Fixed words are their own text.
+impl<const N: usize> Text for [u8; N] {
+    ghost bytes = { λ word. word };
+
+    fn put<T: Target>(&self, target: &mut T) -> Option<()> {
+        target.put(self)
+    }
+}
+
+// One text after another.
+impl<A: Text, B: Text> Text for (A, B) {
+    ghost bytes = { λ texts. A.bytes texts.0 ++ B.bytes texts.1 };
+
+    #[tactic(auto, using(crate::proofs::Pieces::puts_then, crate::proofs::Pieces::puts_stop))]
+    fn put<T: Target>(&self, target: &mut T) -> Option<()> {
+        self.0.put(target)?;
+        self.1.put(target)
+    }
+}
+
+// The two parts' texts, with a space between.
 impl<A: Text, B: Text> Text for Pair<A, B> {
     ghost bytes = { λ p. spaced (A.bytes p.first) (B.bytes p.second) };
 

@@ -1,6 +1,6 @@
 -- The facts of all stops of a route, one stop at a time. Assumes nothing.
-use Rattle.std.proofs.Common.{◌≡◌, ℕ, zero, suc, ◌+◌, ◌<◌, List, [], ◌∷◌, ◌++◌, length, get_or, take, set, Ok, sym, refl, ap, ◌∙◌, arith}
-use Rattle.std.proofs.lemmas.List.{take_more, take_more_set}
+use Rattle.std.proofs.Common.{◌≡◌, ℕ, zero, suc, ◌+◌, ◌<◌, ◌≤◌, List, [], ◌∷◌, ◌++◌, length, get_or, take, set, Ok, sym, refl, ap, ◌∙◌, arith}
+use Rattle.std.proofs.lemmas.List.{take_all, take_more, take_more_set}
 use Rattle.cost.specs.Algebra.{Algebra}
 use Rattle.source.specs.Meaning.{Meaning}
 use Rattle.route.specs.declared.stop.Stop.{Stop}
@@ -28,7 +28,14 @@ module _ {E : Type 0} (K : Algebra E) (m : Meaning E) (ss : List Stop) where
   pub read_next : (i : ℕ) (d : Facts) → i < length ss → facts_at ss (timed K m ss) (i + 1) ≡ Ok (get_or (route_facts K m ss) i d)
   read_next i d h = facts_there ss (timed K m ss) i h ∙ ap Ok (sym (all_facts_at ss (timed K m ss) i d (length_timed K m ss) h))
 
--- one more of a list copied into a table
-pub copied_more : (xs fs : List Facts) (i : ℕ) (f d : Facts) → i < length xs → i < length fs → f ≡ get_or fs i d → take i xs ≡ take i fs → take (i + 1) (set xs i f) ≡ take (i + 1) fs
-copied_more xs fs i f d h k e same =
-    take_more_set xs i f h ∙ ap (λ (l : List Facts). l ++ f ∷ []) same ∙ ap (λ (g : Facts). take i fs ++ g ∷ []) e ∙ sym (take_more fs i d k)
+  -- one more of the list is copied into a table
+  pub copied_more : (xs : List Facts) (i : ℕ) (f : Facts) → length xs ≡ length ss → i < length xs → ((d : Facts) → f ≡ get_or (route_facts K m ss) i d) → take i xs ≡ take i (route_facts K m ss) → take (i + 1) (set xs i f) ≡ take (i + 1) (route_facts K m ss)
+  copied_more xs i f size h e same =
+      let long = all_length in
+      take_more_set xs i f h ∙ ap (λ (l : List Facts). l ++ f ∷ []) same ∙ ap (λ (g : Facts). take i (route_facts K m ss) ++ g ∷ []) (e f) ∙ sym (take_more (route_facts K m ss) i f (omega arith))
+
+  -- all of it is copied
+  pub copied_all : (xs : List Facts) (i : ℕ) → length xs ≡ length ss → length xs ≤ i → take i xs ≡ take i (route_facts K m ss) → xs ≡ route_facts K m ss
+  copied_all xs i size h same =
+      let long = all_length in
+      sym (take_all i xs (omega arith)) ∙ same ∙ take_all i (route_facts K m ss) (omega arith)

@@ -1,53 +1,37 @@
 ghost use Rattle.std.specs.Prelude.{length, ◌++◌};
 ghost use Rattle.cost.specs.Targets.{Puts};
-ghost use Rattle.report.specs.Reports.{item, count_line, stop_line, stop_lines, least_line};
+ghost use Rattle.report.specs.Reports.{count_line, stop_line, stop_lines};
 
 use cost::target::Target;
 use cost::text::Text;
 use route::stop::Facts;
 
-// Puts a word and a number after it.
-fn put_item<T: Target>(word: &[u8], n: u64, target: &mut T) -> Option<()>
-    ensures { Puts T.model (item word.now n) target.old target.new result }
-{
-    target.put(word)?;
-    n.put(target)
-}
-
 // Puts the line of the stop at a place.
 fn put_stop<T: Target>(place: u64, facts: &Facts, target: &mut T) -> Option<()>
     ensures { Puts T.model (stop_line place facts.now) target.old target.new result }
 {
-    put_item(b"stop ", place, target)?;
-    put_item(b" curve ", u64::from(facts.curve), target)?;
-    put_item(b" minute ", u64::from(facts.minute), target)?;
-    target.put(b"\n")
+    let stop = (*b"stop ", place);
+    let curve = (*b" curve ", u64::from(facts.curve));
+    let minute = (*b" minute ", u64::from(facts.minute));
+    (stop, (curve, (minute, *b"\n"))).put(target)
 }
 
-// Puts the line of the stops' count.
-fn put_count<T: Target>(count: u64, target: &mut T) -> Option<()>
-    ensures { Puts T.model (count_line count) target.old target.new result }
-{
-    put_item(b"stops ", count, target)?;
-    target.put(b"\n")
+// How many stops there are, and the lines of all of them.
+#[derive(Clone, Copy)]
+pub(crate) struct StopLines<'a> {
+    pub(crate) facts: &'a [Facts],
 }
 
-// Puts the line of the stops' count and a line for each stop.
-pub(crate) fn put_stops<T: Target>(facts: &[Facts], target: &mut T) -> Option<()>
-    ensures { Puts T.model (count_line (length facts.now) ++ stop_lines 1 facts.now) target.old target.new result }
-{
-    put_count(facts.len() as u64, target)?;
-    for (i, stop) in facts.iter().enumerate() {
-        put_stop(i as u64 + 1, stop, target)?;
+impl<'a> Text for StopLines<'a> {
+    ghost bytes = { λ lines. count_line (length lines.facts.now) ++ stop_lines 1 lines.facts.now };
+
+    #[tactic(auto, using(crate::proofs::Stops::stops_more, crate::proofs::Stops::stops_full, crate::proofs::Stops::count_full))]
+    fn put<T: Target>(&self, target: &mut T) -> Option<()> {
+        let count = (*b"stops ", self.facts.len() as u64);
+        (count, *b"\n").put(target)?;
+        for (i, stop) in self.facts.iter().enumerate() {
+            put_stop(i as u64 + 1, stop, target)?;
+        }
+        Some(())
     }
-    Some(())
-}
-
-// Puts the line of the least cost, of which this is the text.
-pub(crate) fn put_least<T: Target, X: Text>(least: &X, target: &mut T) -> Option<()>
-    ensures { Puts T.model (least_line (X.bytes least.now)) target.old target.new result }
-{
-    target.put(b"least ")?;
-    least.put(target)?;
-    target.put(b"\n")
 }

@@ -10,6 +10,7 @@ use route::table::Route;
 use source::source::Source;
 
 // Reads the facts of stop i, counted from 0, into an entry.
+#[tactic(auto, using(crate::proofs::Told::read_next))]
 fn read_entry<S: Source>(route: &Route<S>, i: usize, entry: &mut Facts)
     requires there { i < length route.now.stops }
     requires few { i < 64 }
@@ -21,6 +22,7 @@ fn read_entry<S: Source>(route: &Route<S>, i: usize, entry: &mut Facts)
 }
 
 // Reads the facts of all stops into a table with an entry for each.
+#[tactic(auto, using(crate::proofs::Told::copied_more, crate::proofs::Told::copied_all))]
 fn read_facts<S: Source>(route: &Route<S>, entries: &mut [Facts])
     requires all { length entries.old ≡ length route.now.stops }
     requires few { length entries.old ≤ 64 }
