@@ -1,9 +1,10 @@
-ghost use Rattle.std.specs.Prelude.{◌≡◌, [], ◌∷◌, ◌++◌, IfOk, string_bytes, codes};
+ghost use Rattle.std.specs.Prelude.{◌≡◌, [], ◌∷◌, ◌++◌, IfOk, IfSome, string_bytes, codes};
 ghost use Rattle.card_table.specs.Lines.{facts_line, facts_lines, answer_line, answer_lines, card_text, least_text, least_pair_text};
 
 use reader::lines::refusal_line;
 use route::stop::{Facts, Refusal};
 use std::alloc::{AllocError, Global};
+use std::fmt::Display;
 
 // The line of the stop at a place.
 #[tactic(auto, using(crate::proofs::FactsLines::line_ended))]
@@ -14,6 +15,9 @@ fn facts_line(heap: Global, place: usize, facts: &Facts) -> Result<String, Alloc
 }
 
 // A line for each stop.
+// Kept: here and for the answers a loop that pushes; of what `try_collect` puts into a text from lines that want memory,
+// the proof did not close (tried).
+#[tactic(auto, using(crate::proofs::Growing::facts_more))]
 pub fn facts_lines(heap: Global, facts: &[Facts]) -> Result<String, AllocError>
     ensures { IfOk result (λ s. string_bytes s ≡ facts_lines 1 facts.now) }
 {
@@ -35,6 +39,7 @@ fn answer_line(heap: Global, answer: Result<(), Refusal>) -> Result<String, Allo
     }
 }
 
+#[tactic(auto, using(crate::proofs::Growing::answers_more))]
 fn answer_lines(heap: Global, answers: &[Result<(), Refusal>]) -> Result<String, AllocError>
     ensures { IfOk result (λ s. string_bytes s ≡ answer_lines answers.now) }
 {
@@ -54,6 +59,7 @@ pub fn name_line(heap: Global, name: &str) -> Result<String, AllocError>
 }
 
 // What is printed of a card: its name, each refusal, a line for each stop, and its last lines.
+#[tactic(auto, using(crate::proofs::Growing::four))]
 pub fn card_text(
     heap: Global,
     name: &str,
@@ -72,16 +78,24 @@ pub fn card_text(
     Ok(text)
 }
 
-// The last line of a card by money.
-pub fn least_line(heap: Global, least: u64) -> Result<String, AllocError>
-    ensures { IfOk result (λ s. string_bytes s ≡ least_text least) }
+// The last line of a card: its least cost, as that prints itself.
+fn last_line<T: Display + Drop>(heap: Global, least: T) -> Result<String, AllocError>
+    ensures { IfOk result (λ s. IfSome (T.Display.output least) (λ text. string_bytes s ≡ codes "least " ++ (text ++ (10 ∷ [])))) }
 {
     format!(in heap; "least {least}\n")
 }
 
+// The last line of a card by money.
+pub fn least_line(heap: Global, least: u64) -> Result<String, AllocError>
+    ensures { IfOk result (λ s. string_bytes s ≡ least_text least) }
+{
+    last_line(heap, least)
+}
+
 // The last line of a card by promise: minutes late, then money.
+#[tactic(auto, using(crate::proofs::LastLines::pair_ended))]
 pub fn least_pair_line(heap: Global, late: u64, least: u64) -> Result<String, AllocError>
     ensures { IfOk result (λ s. string_bytes s ≡ least_pair_text late least) }
 {
-    format!(in heap; "least {late} {least}\n")
+    last_line(heap, format_args!("{late} {least}"))
 }

@@ -4,6 +4,7 @@ ghost use Rattle.card_table.specs.Cards.{rows, late_row, CardsHold};
 use source::due::DueRow;
 
 // The theorem that every card of the table holds.
+#[tactic(auto, using(crate::proofs::Proved::cards_hold))]
 pub fn cards_hold()
     ensures { CardsHold }
 {}
