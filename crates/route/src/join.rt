@@ -55,7 +55,7 @@ impl JoinAt {
     }
 }
 
-// The stops that two routes may have.
+// How many stops two routes may have together.
 const MOST_JOINED: usize = 2 * MOST_STOPS;
 
 // The marks of all stops of a line, with room for those of two routes.

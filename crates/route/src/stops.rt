@@ -9,7 +9,7 @@ use crate::stop::{Splice, Stop};
 use std::alloc::{AllocError, Global};
 use std::marker::Model;
 
-// The stops that a route may have.
+// How many stops a route may have.
 pub(crate) const MOST_STOPS: usize = 64;
 
 // The stops of a route, at most so many. There is room for all of them from the start, so that no call but the opening
