@@ -5,12 +5,13 @@ use Rattle.route.specs.declared.stop.Facts.{Facts}
 use Rattle.route.specs.Judged.{Answer}
 use Rattle.card_table.specs.Lines.{facts_line, facts_lines, answer_line, answer_lines}
 
-answers_push : (rs : List Answer) (r : Answer) → answer_lines (rs ++ r ∷ []) ≡ answer_lines rs ++ answer_line r
-answers_push [] r = append-nil (answer_line r)
-answers_push (x ∷ rs) r = ap (λ (l : List ℕ). answer_line x ++ l) (answers_push rs r) ∙ sym (append_assoc (answer_line x) (answer_lines rs) (answer_line r))
+answers_push : (word : List ℕ) (rs : List Answer) (r : Answer) → answer_lines word (rs ++ r ∷ []) ≡ answer_lines word rs ++ answer_line word r
+answers_push word [] r = append-nil (answer_line word r)
+answers_push word (x ∷ rs) r =
+    ap (λ (l : List ℕ). answer_line word x ++ l) (answers_push word rs r) ∙ sym (append_assoc (answer_line word x) (answer_lines word rs) (answer_line word r))
 
-pub answers_more : (rs : List Answer) (i : ℕ) (d : Answer) → i < length rs → answer_lines (take (i + 1) rs) ≡ answer_lines (take i rs) ++ answer_line (get_or rs i d)
-answers_more rs i d h = ap answer_lines (take_more rs i d h) ∙ answers_push (take i rs) (get_or rs i d)
+pub answers_more : (word : List ℕ) (rs : List Answer) (i : ℕ) (d : Answer) → i < length rs → answer_lines word (take (i + 1) rs) ≡ answer_lines word (take i rs) ++ answer_line word (get_or rs i d)
+answers_more word rs i d h = ap (answer_lines word) (take_more rs i d h) ∙ answers_push word (take i rs) (get_or rs i d)
 
 facts_push : (fs : List Facts) (f : Facts) (i : ℕ) → facts_lines i (fs ++ f ∷ []) ≡ facts_lines i fs ++ facts_line (i + length fs) f
 facts_push [] f i = let z : i ≡ i + 0 = omega arith in append-nil (facts_line i f) ∙ ap (λ (n : ℕ). facts_line n f) z

@@ -2,3 +2,4 @@ pub mod Checks
 pub mod Proved
 mod Growing
 mod FactsLines
+mod LastLines

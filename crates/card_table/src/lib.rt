@@ -3,3 +3,5 @@
 
 pub mod lines;
 pub mod table;
+#[cfg(test)]
+mod tests;

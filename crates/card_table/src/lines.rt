@@ -1,9 +1,9 @@
-ghost use Rattle.std.specs.Prelude.{◌≡◌, [], ◌∷◌, ◌++◌, IfOk, string_bytes, codes};
-ghost use Rattle.card_table.specs.Lines.{facts_line, facts_lines, answer_line, answer_lines, card_text, least_text, least_pair_text};
+ghost use Rattle.std.specs.Prelude.{◌≡◌, [], ◌∷◌, ◌++◌, IfOk, IfSome, string_bytes, codes};
+ghost use Rattle.card_table.specs.Lines.{facts_line, facts_lines, refused_line, answer_line, answer_lines, card_text, least_text, least_pair_text, joined_text, cost_text};
 
-use reader::lines::refusal_line;
 use route::stop::{Facts, Refusal};
 use std::alloc::{AllocError, Global};
+use std::fmt::Display;
 
 // The line of the stop at a place.
 #[tactic(auto, using(crate::proofs::FactsLines::line_ended))]
@@ -14,6 +14,9 @@ fn facts_line(heap: Global, place: usize, facts: &Facts) -> Result<String, Alloc
 }
 
 // A line for each stop.
+// Kept: here and for the answers a loop that pushes; of what `try_collect` puts into a text from lines that want memory,
+// the proof did not close (tried).
+#[tactic(auto, using(crate::proofs::Growing::facts_more))]
 pub fn facts_lines(heap: Global, facts: &[Facts]) -> Result<String, AllocError>
     ensures { IfOk result (λ s. string_bytes s ≡ facts_lines 1 facts.now) }
 {
@@ -25,22 +28,34 @@ pub fn facts_lines(heap: Global, facts: &[Facts]) -> Result<String, AllocError>
     Ok(text)
 }
 
+// The line of a refusal, which is told by a word.
+fn refused_line(heap: Global, word: &str, refusal: Refusal) -> Result<String, AllocError>
+    ensures { IfOk result (λ s. string_bytes s ≡ refused_line word.now refusal) }
+{
+    format!(in heap; "{word} {refusal}\n")
+}
+
 // The line of a refused splice; an accepted one has none.
-fn answer_line(heap: Global, answer: Result<(), Refusal>) -> Result<String, AllocError>
-    ensures { IfOk result (λ s. string_bytes s ≡ answer_line answer) }
+fn answer_line(heap: Global, word: &str, answer: Result<(), Refusal>) -> Result<String, AllocError>
+    ensures { IfOk result (λ s. string_bytes s ≡ answer_line word.now answer) }
 {
     match answer {
         Ok(()) => Ok(String::new(heap)),
-        Err(refusal) => refusal_line(heap, refusal),
+        Err(refusal) => refused_line(heap, word, refusal),
     }
 }
 
-fn answer_lines(heap: Global, answers: &[Result<(), Refusal>]) -> Result<String, AllocError>
-    ensures { IfOk result (λ s. string_bytes s ≡ answer_lines answers.now) }
+#[tactic(auto, using(crate::proofs::Growing::answers_more))]
+fn answer_lines(
+    heap: Global,
+    word: &str,
+    answers: &[Result<(), Refusal>],
+) -> Result<String, AllocError>
+    ensures { IfOk result (λ s. string_bytes s ≡ answer_lines word.now answers.now) }
 {
     let mut text = String::new(heap);
     for answer in answers {
-        let line = answer_line(heap, *answer)?;
+        let line = answer_line(heap, word, *answer)?;
         text.push_str(line.as_str())?;
     }
     Ok(text)
@@ -53,18 +68,20 @@ pub fn name_line(heap: Global, name: &str) -> Result<String, AllocError>
     format!(in heap; "card {name}\n")
 }
 
-// What is printed of a card: its name, each refusal, a line for each stop, and its last lines.
+// What is printed of a card: its name, each refusal by a word, a line for each stop, and its last lines.
+#[tactic(auto, using(crate::proofs::Growing::four))]
 pub fn card_text(
     heap: Global,
+    word: &str,
     name: &str,
     answers: &[Result<(), Refusal>],
     facts: &[Facts],
     last: &str,
 ) -> Result<String, AllocError>
-    ensures { IfOk result (λ s. string_bytes s ≡ card_text name.now answers.now facts.now last.now) }
+    ensures { IfOk result (λ s. string_bytes s ≡ card_text word.now name.now answers.now facts.now last.now) }
 {
     let mut text = name_line(heap, name)?;
-    let refusals = answer_lines(heap, answers)?;
+    let refusals = answer_lines(heap, word, answers)?;
     let stops = facts_lines(heap, facts)?;
     text.push_str(refusals.as_str())?;
     text.push_str(stops.as_str())?;
@@ -72,16 +89,45 @@ pub fn card_text(
     Ok(text)
 }
 
-// The last line of a card by money.
-pub fn least_line(heap: Global, least: u64) -> Result<String, AllocError>
-    ensures { IfOk result (λ s. string_bytes s ≡ least_text least) }
+// The last line of a card: its least cost, as that prints itself.
+fn last_line<T: Display + Drop>(heap: Global, least: T) -> Result<String, AllocError>
+    ensures { IfOk result (λ s. IfSome (T.Display.output least) (λ text. string_bytes s ≡ codes "least " ++ (text ++ (10 ∷ [])))) }
 {
     format!(in heap; "least {least}\n")
 }
 
+// The last line of a card by money.
+pub fn least_line(heap: Global, least: u64) -> Result<String, AllocError>
+    ensures { IfOk result (λ s. string_bytes s ≡ least_text least) }
+{
+    last_line(heap, least)
+}
+
 // The last line of a card by promise: minutes late, then money.
+#[tactic(auto, using(crate::proofs::LastLines::pair_ended))]
 pub fn least_pair_line(heap: Global, late: u64, least: u64) -> Result<String, AllocError>
     ensures { IfOk result (λ s. string_bytes s ≡ least_pair_text late least) }
 {
-    format!(in heap; "least {late} {least}\n")
+    last_line(heap, format_args!("{late} {least}"))
+}
+
+// The last line of a join: its least cost, or why there is none.
+pub fn joined_line(
+    heap: Global,
+    word: &str,
+    least: Result<u64, Refusal>,
+) -> Result<String, AllocError>
+    ensures { IfOk result (λ s. string_bytes s ≡ joined_text word.now least) }
+{
+    match least {
+        Ok(least) => least_line(heap, least),
+        Err(refusal) => refused_line(heap, word, refusal),
+    }
+}
+
+// The line of a curve's cost at a minute.
+pub fn cost_line(heap: Global, minute: u16, cost: u64) -> Result<String, AllocError>
+    ensures { IfOk result (λ s. string_bytes s ≡ cost_text minute cost) }
+{
+    format!(in heap; "minute {minute} cost {cost}\n")
 }

@@ -1,15 +1,17 @@
-// Runs the worked cards and prints each: its stops with curve, leg, mark and minute, its least cost, and the join.
+// Runs the worked cards and prints each: its stops with curve, leg, mark and minute, its least cost, the join, and the
+// costs of a curve by bends.
 #![tactic(auto)]
 
 mod show;
 
+use bend_book::bend::BendBook;
 use card_table::lines::least_pair_line;
-use card_table::table::{card_rows, late_rows};
+use card_table::table::{card_bends, card_heads, card_rows, late_rows};
 use cost::amount::Amount;
-use route::card::{Card, Outcome};
+use route::card::Outcome;
 use route::run::whole_run;
 use route::stop::Splice;
-use show::{show_least, show_stops};
+use show::{show_card, show_costs, show_join, show_money};
 use source::due::DueBook;
 use source::pairing::Pairing;
 use std::alloc::{AllocError, Global};
@@ -47,11 +49,6 @@ fn promise_books(heap: Global) -> Result<Pairing<DueBook, DueBook>, AllocError> 
     })
 }
 
-fn show_money(rt: &HostRuntime, name: &str, card: &Card<Amount>) -> anyhow::Result<()> {
-    show_stops(rt, name, card.answers.as_slice(), card.facts.as_slice())?;
-    show_least(rt, Ok(card.least))
-}
-
 // Cards 1 to 5 and 7: four splices, one after another, and the join of the third card with the fifth.
 fn splices_and_join(rt: &HostRuntime) -> anyhow::Result<()> {
     let heap = rt.alloc();
@@ -69,8 +66,7 @@ fn splices_and_join(rt: &HostRuntime) -> anyhow::Result<()> {
     show_money(rt, "4", &middle.second)?;
     let end = by_money(heap, &splices[..2], &splices, 1, 10, 2)?;
     show_money(rt, "5", &end.second)?;
-    println!(rt; "card 7")?;
-    show_least(rt, end.joined)
+    show_join(rt, "7", end.joined)
 }
 
 // Card 6: a leg that the windows just bear, and one that they do not.
@@ -91,20 +87,28 @@ fn money_and_promise(rt: &HostRuntime) -> anyhow::Result<()> {
     let front = promise_books(heap)?;
     let back = promise_books(heap)?;
     let promise = whole_run(heap, front, &splices, back, &splices[..0], 2, 0, 1)?.first;
-    show_stops(
+    let least = promise.least;
+    let last = least_pair_line(heap, least.first.units(), least.second.units())?;
+    show_card(
         rt,
         "8 promise",
         promise.answers.as_slice(),
         promise.facts.as_slice(),
-    )?;
-    let least = promise.least;
-    let line = least_pair_line(heap, least.first.units(), least.second.units())?;
-    print!(rt; "{line}")?;
-    Ok(())
+        last.as_str(),
+    )
+}
+
+// Card 9: a curve by its bends, on its way down, where it is flat, and at its end.
+fn bends(rt: &HostRuntime) -> anyhow::Result<()> {
+    let heap = rt.alloc();
+    let heads = Vec::from_slice(heap, &card_heads())?;
+    let bends = Vec::from_slice(heap, &card_bends())?;
+    show_costs(rt, "9", &BendBook::new(heads, bends), &[103, 104, 110])
 }
 
 fn main(rt: HostRuntime) -> anyhow::Result<()> {
     splices_and_join(&rt)?;
     legs(&rt)?;
-    money_and_promise(&rt)
+    money_and_promise(&rt)?;
+    bends(&rt)
 }

@@ -1,35 +1,68 @@
-use card_table::lines::{facts_lines, least_line, name_line};
+use anyhow::Context;
+use bend_book::bend::BendBook;
+use card_table::lines::{card_text, cost_line, joined_line};
 use cost::amount::Amount;
+use route::card::Card;
 use route::stop::{Facts, Refusal};
+use source::source::Source;
+use std::alloc::{AllocError, Global};
 
-// The card's name, each refusal, and a line for each stop.
-pub fn show_stops(
+// The word before a refusal.
+const REFUSED: &str = "refused";
+
+// Prints a card: its name, each refusal, a line for each stop, and its last lines.
+pub fn show_card(
     rt: &HostRuntime,
     name: &str,
     answers: &[Result<(), Refusal>],
     facts: &[Facts],
+    last: &str,
 ) -> anyhow::Result<()> {
-    let heap = rt.alloc();
-    let first = name_line(heap, name)?;
-    print!(rt; "{first}")?;
-    for answer in answers {
-        if let Err(refusal) = answer {
-            println!(rt; "refused {refusal}")?;
-        }
-    }
-    let stops = facts_lines(heap, facts)?;
-    print!(rt; "{stops}")?;
+    let text = card_text(rt.alloc(), REFUSED, name, answers, facts, last)?;
+    print!(rt; "{text}")?;
     Ok(())
 }
 
-// The least cost, or why there is none.
-pub fn show_least(rt: &HostRuntime, least: Result<Amount, Refusal>) -> anyhow::Result<()> {
-    match least {
-        Ok(least) => {
-            let line = least_line(rt.alloc(), least.units())?;
-            print!(rt; "{line}")?;
-        }
-        Err(refusal) => println!(rt; "refused {refusal}")?,
+// The last line of a card by money, which is the least cost or why there is none.
+fn money_line(heap: Global, least: Result<Amount, Refusal>) -> Result<String, AllocError> {
+    joined_line(heap, REFUSED, least.map(|least| least.units()))
+}
+
+// A card by money.
+pub fn show_money(rt: &HostRuntime, name: &str, card: &Card<Amount>) -> anyhow::Result<()> {
+    let last = money_line(rt.alloc(), Ok(card.least))?;
+    show_card(
+        rt,
+        name,
+        card.answers.as_slice(),
+        card.facts.as_slice(),
+        last.as_str(),
+    )
+}
+
+// A join, of which the cost alone is read.
+pub fn show_join(
+    rt: &HostRuntime,
+    name: &str,
+    least: Result<Amount, Refusal>,
+) -> anyhow::Result<()> {
+    let last = money_line(rt.alloc(), least)?;
+    show_card(rt, name, &[], &[], last.as_str())
+}
+
+// What the book's first curve costs at these minutes.
+pub fn show_costs(
+    rt: &HostRuntime,
+    name: &str,
+    book: &BendBook,
+    minutes: &[u16],
+) -> anyhow::Result<()> {
+    let heap = rt.alloc();
+    let mut lines = String::new(heap);
+    for minute in minutes {
+        let cost = book.cost(0, *minute).context("the curve is closed")?;
+        let line = cost_line(heap, *minute, cost.units())?;
+        lines.push_str(line.as_str())?;
     }
-    Ok(())
+    show_card(rt, name, &[], &[], lines.as_str())
 }

@@ -7,7 +7,7 @@ use Rattle.timing.specs.Timetables.{bill}
 use Rattle.timing.specs.Best.{Best}
 use Rattle.timing.specs.Reach.{BlockedAt}
 use Rattle.route.specs.declared.stop.Refusal.{Refusal}
-use Rattle.route.specs.declared.stop.Refusal.TheVariants.{NoTimetable}
+use Rattle.route.specs.declared.stop.Refusal.TheVariants.{Place, Leg, NoTimetable}
 use Rattle.route.specs.Refusals.{number, first_of}
 use Rattle.route.specs.Plain.{Plain, visits, releg}
 use Rattle.route.specs.Judged.{outside, long}
@@ -24,7 +24,7 @@ joined K m ps i leg n qs j = visits K m (take i ps) ++ visits K n (releg leg (dr
 
 -- what is examined of a join before a timetable is asked for
 abbrev pub objection_to_join : ℕ → ℕ → ℕ → ℕ → ℕ → Option ℕ
-objection_to_join front i leg back j = first_of ((nat_lt front i || outside j (back + 1), 1) ∷ (long leg, 4) ∷ [])
+objection_to_join front i leg back j = first_of ((nat_lt front i || outside j (back + 1), number Place) ∷ (long leg, number Leg) ∷ [])
 
 -- the join of the stops ps and qs is answered so
 pub data JoinJudged {E : Type 0} (K : Algebra E) (m : Meaning E) (ps : List Plain) (i leg : ℕ) (n : Meaning E) (qs : List Plain) (j : ℕ) : Result E Refusal → Type 0 where

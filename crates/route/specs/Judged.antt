@@ -7,7 +7,7 @@ use Rattle.timing.specs.Reach.{BlockedAt}
 use Rattle.route.specs.declared.stop.Splice.{Splice}
 use Rattle.route.specs.declared.stop.Splice.TheVariants.{Insert, Remove, Change}
 use Rattle.route.specs.declared.stop.Refusal.{Refusal}
-use Rattle.route.specs.declared.stop.Refusal.TheVariants.{NoTimetable}
+use Rattle.route.specs.declared.stop.Refusal.TheVariants.{Place, Full, Curve, Leg, NoTimetable}
 use Rattle.route.specs.Refusals.{number, first_of}
 use Rattle.route.specs.Plain.{Plain, spliced, visits}
 
@@ -24,9 +24,9 @@ long leg = nat_lt 600 leg
 
 -- what is examined before a timetable is asked for, in order, each with the number of its refusal
 abbrev pub examined : {E : Type 0} → Meaning E → ℕ → Splice → List (Bool × ℕ)
-examined m n (Insert p k a b) = (outside p (n + 1), 1) ∷ (nat_le 64 n, 2) ∷ (closed m k, 3) ∷ (long a || long b, 4) ∷ []
-examined m n (Remove p l) = (outside p n, 1) ∷ (long l, 4) ∷ []
-examined m n (Change p k) = (outside p n, 1) ∷ (closed m k, 3) ∷ []
+examined m n (Insert p k a b) = (outside p (n + 1), number Place) ∷ (nat_le 64 n, number Full) ∷ (closed m k, number Curve) ∷ (long a || long b, number Leg) ∷ []
+examined m n (Remove p l) = (outside p n, number Place) ∷ (long l, number Leg) ∷ []
+examined m n (Change p k) = (outside p n, number Place) ∷ (closed m k, number Curve) ∷ []
 
 -- the number of the first refusal that fits, if any
 abbrev pub objection : {E : Type 0} → Meaning E → List Plain → Splice → Option ℕ

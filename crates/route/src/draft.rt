@@ -72,37 +72,37 @@ impl<'a, S: Source> Draft<'a, S> {
         ensures stops { result.stops ≡ spliced splice (plains stops.now) }
     {
         let (front, rest) = stops.split_at(splice.front());
-        match splice {
-            Splice::Insert {
-                curve,
-                leg_in,
-                leg_out,
-                ..
-            } => Draft {
+        match (splice, rest) {
+            (
+                Splice::Insert {
+                    curve,
+                    leg_in,
+                    leg_out,
+                    ..
+                },
+                _,
+            ) => Draft {
                 source,
                 front,
-                put: Some(Stop {
-                    curve,
-                    leg: leg_in,
-                    mark: 0,
-                }),
+                put: Some(Stop::new(curve, leg_in)),
                 back: rest,
                 leg: Some(leg_out),
             },
-            Splice::Remove { leg, .. } => Draft {
+            (Splice::Remove { leg, .. }, [_, back @ ..]) => Draft {
                 source,
                 front,
                 put: None,
-                back: &rest[1..],
+                back,
                 leg: Some(leg),
             },
-            Splice::Change { curve, .. } => Draft {
+            (Splice::Change { curve, .. }, [stop, back @ ..]) => Draft {
                 source,
                 front,
-                put: Some(Stop { curve, ..rest[0] }),
-                back: &rest[1..],
+                put: Some(Stop { curve, ..*stop }),
+                back,
                 leg: None,
             },
+            (_, []) => unreachable!(),
         }
     }
 
@@ -111,7 +111,7 @@ impl<'a, S: Source> Draft<'a, S> {
         ensures value { result ≡ length self.now.stops }
         ensures small { result ≤ 65 }
     {
-        self.front.len() + self.put.is_some() as usize + self.back.len()
+        self.front.len() + usize::from(self.put.is_some()) + self.back.len()
     }
 
     // Stop i, counted from 0.

@@ -10,6 +10,7 @@ ghost use Rattle.route.specs.Joins.{JoinJudged, Least, joined, objection_to_join
 use crate::draft::{Draft, Joined};
 use crate::judge::{is_long, is_outside, serve};
 use crate::stop::Refusal;
+use crate::stops::MOST_STOPS;
 use crate::table::Route;
 use source::source::Source;
 use timing::line::Line;
@@ -54,12 +55,15 @@ impl JoinAt {
     }
 }
 
+// How many stops two routes may have together.
+const MOST_JOINED: usize = 2 * MOST_STOPS;
+
 // The marks of all stops of a line, with room for those of two routes.
 // Kept: fixed room, so that a join wants no memory.
-fn all_marks<L: Line>(line: &L) -> [u16; 128]
+fn all_marks<L: Line>(line: &L) -> [u16; MOST_JOINED]
     ensures { Sound L.Kind.Cost.algebra (L.visits line.now) → Feasible (L.visits line.now) → length (L.visits line.now) ≤ 128 → Marks L.Kind.Cost.algebra (L.visits line.now) (take (length (L.visits line.now)) result) }
 {
-    let mut marks = [0; 128];
+    let mut marks = [0; MOST_JOINED];
     refresh(line, &mut marks, 0);
     marks
 }

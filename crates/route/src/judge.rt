@@ -8,6 +8,7 @@ ghost use Rattle.route.specs.Calls.{left};
 
 use crate::draft::Draft;
 use crate::stop::{Refusal, Splice};
+use crate::stops::MOST_STOPS;
 use crate::table::Route;
 use source::source::Source;
 use timing::line::Line;
@@ -57,7 +58,7 @@ impl<S: Source> Route<S> {
                 leg_out,
             } => {
                 Refusal::Place.refuse_if(is_outside(place, n + 1))?;
-                Refusal::Full.refuse_if(64 <= n)?;
+                Refusal::Full.refuse_if(MOST_STOPS <= n)?;
                 Refusal::Curve.refuse_if(is_closed(&self.source, curve))?;
                 Refusal::Leg.refuse_if(is_long(leg_in) | is_long(leg_out))
             }

@@ -1,12 +1,11 @@
-ghost use Rattle.std.specs.Prelude.{◌≤◌, List, length, Ok};
+ghost use Rattle.std.specs.Prelude.{◌≤◌, length, Ok};
 ghost use Rattle.source.specs.Meaning.{Lawful};
-ghost use Rattle.route.specs.declared.stop.Stop.{Stop};
 ghost use Rattle.route.specs.Plain.{spliced};
 ghost use Rattle.route.specs.Table.{plains};
 ghost use Rattle.route.specs.Kept.{Kept};
 ghost use Rattle.route.specs.Judged.{Judged};
 ghost use Rattle.route.specs.Steps.{HasPlace};
-ghost use Rattle.route.specs.Calls.{Altered, Refreshed, Spliced};
+ghost use Rattle.route.specs.Calls.{Refreshed, Spliced};
 
 use crate::draft::Draft;
 use crate::stop::Splice;

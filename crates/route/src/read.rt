@@ -28,6 +28,7 @@ impl<S: Source> Route<S> {
     fn minute_at(&self, i: usize) -> u16
         ensures { result ≡ slice_index (timed S.Kind.Cost.algebra (S.Source.meaning self.now.source) self.now.stops) i }
     {
+        // Kept: here and at the least cost, since a value that borrows its own marks cannot be handed out.
         let marked = MarkedLine {
             line: &self.draft(),
             marks: &self.stops.marks(),
@@ -59,6 +60,8 @@ impl<S: Source> Route<S> {
     }
 
     // The facts of all stops, in order.
+    // Kept: a report reads them into an array that is lent to it, since it wants no memory; here they are as many as
+    // the stops.
     #[tactic(auto, using(crate::proofs::Runnings::tells_all))]
     pub(crate) fn all_facts(&self, heap: Global) -> Result<Vec<Facts>, AllocError>
         ensures { IfOk result (λ facts. Told S.Kind.Cost.algebra (S.Source.meaning self.now.source) self.now.stops facts.items) }

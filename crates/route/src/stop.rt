@@ -1,5 +1,5 @@
 ghost use Rattle.std.specs.Prelude.{◌≡◌, ◌-◌, Some, cond};
-ghost use Rattle.route.specs.Refusals.{number, named, refusal_text};
+ghost use Rattle.route.specs.Refusals.{number, named, named_text, refusal_text};
 ghost use Rattle.route.specs.FactsText.{facts_text};
 ghost use Rattle.route.specs.Plain.{place};
 
@@ -12,6 +12,19 @@ pub struct Stop {
     pub curve: u8,
     pub leg: u16,
     pub mark: u16,
+}
+
+impl Stop {
+    // A stop whose mark is still to be found.
+    pub(crate) fn new(curve: u8, leg: u16) -> Stop
+        ensures { result ≡ record { curve = curve; leg = leg; mark = 0 } }
+    {
+        Stop {
+            curve,
+            leg,
+            mark: 0,
+        }
+    }
 }
 
 // What is told of a stop.
@@ -103,15 +116,27 @@ impl Refusal {
     }
 }
 
+// A stop that is named, if any, as it stands behind a number.
+#[derive(Clone, Copy, PartialEq, Eq, Debug)]
+pub struct Named(pub Option<usize>);
+
+impl Display for Named {
+    ghost output = { λ n. Some (named_text n.0) };
+
+    fn fmt<W: fmt::Write>(&self, f: &mut Formatter<W>) -> fmt::Result {
+        match self.0 {
+            Some(stop) => write!(f, " stop {stop}"),
+            None => Ok(()),
+        }
+    }
+}
+
 // The number, and the stop that is named.
 impl Display for Refusal {
     ghost output = { λ r. Some (refusal_text r) };
 
     fn fmt<W: fmt::Write>(&self, f: &mut Formatter<W>) -> fmt::Result {
-        match self.stop() {
-            Some(stop) => write!(f, "{} stop {}", self.number(), stop),
-            None => write!(f, "{}", self.number()),
-        }
+        write!(f, "{}{}", self.number(), Named(self.stop()))
     }
 }
 

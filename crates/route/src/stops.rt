@@ -1,4 +1,4 @@
-ghost use Rattle.std.specs.Prelude.{◌≡◌, ◌+◌, ◌-◌, ◌<◌, ◌≤◌, ◌++◌, List, [], length, take, drop, IfOk};
+ghost use Rattle.std.specs.Prelude.{◌≡◌, ◌≤◌, ◌++◌, List, [], length, take, drop, IfOk};
 ghost use Rattle.route.specs.declared.stop.Splice.TheVariants.{Insert, Remove, Change};
 ghost use Rattle.route.specs.Plain.{releg};
 ghost use Rattle.route.specs.Table.{plains, marks};
@@ -9,8 +9,11 @@ use crate::stop::{Splice, Stop};
 use std::alloc::{AllocError, Global};
 use std::marker::Model;
 
-// The stops of a route, at most 64. There is room for all of them from the start, so that no call but the opening can
-// want memory.
+// How many stops a route may have.
+pub(crate) const MOST_STOPS: usize = 64;
+
+// The stops of a route, at most so many. There is room for all of them from the start, so that no call but the opening
+// can want memory.
 #[derive(Drop)]
 pub(crate) struct StopTable {
     stops: Vec<Stop>,
@@ -32,7 +35,7 @@ impl StopTable {
     pub(crate) fn new(heap: Global) -> Result<StopTable, AllocError>
         ensures { IfOk result (λ table. table ≡ []) }
     {
-        let stops = Vec::with_capacity(heap, 64)?;
+        let stops = Vec::with_capacity(heap, MOST_STOPS)?;
         Ok(StopTable { stops })
     }
 
@@ -63,9 +66,7 @@ impl StopTable {
 
     // Puts a stop at a place; the next one is then reached by `leg_out`.
     fn insert(&mut self, place: usize, stop: Stop, leg_out: u16)
-        requires from { 1 ≤ place }
-        requires to { place ≤ length self.old + 1 }
-        requires room { length self.old < 64 }
+        requires { HasPlace (length self.old) (Insert place stop.curve stop.leg leg_out) }
         ensures { Altered self.old (Insert place stop.curve stop.leg leg_out) self.new }
     {
         self.set_leg(place - 1, leg_out);
@@ -74,8 +75,7 @@ impl StopTable {
 
     // Takes the stop at a place out; the next one is then reached by `leg`.
     fn remove(&mut self, place: usize, leg: u16)
-        requires from { 1 ≤ place }
-        requires to { place ≤ length self.old }
+        requires { HasPlace (length self.old) (Remove place leg) }
         ensures { Altered self.old (Remove place leg) self.new }
     {
         self.set_leg(place, leg);
@@ -84,10 +84,10 @@ impl StopTable {
 
     // Puts another curve number on the stop at a place.
     fn change(&mut self, place: usize, curve: u8)
-        requires from { 1 ≤ place }
-        requires to { place ≤ length self.old }
+        requires { HasPlace (length self.old) (Change place curve) }
         ensures { Altered self.old (Change place curve) self.new }
     {
+        // Kept: a record of the inner table is lent and altered, so that its leg and its mark stay as they are.
         let stop = &mut self.stops[place - 1];
         stop.curve = curve;
     }
@@ -103,26 +103,19 @@ impl StopTable {
                 curve,
                 leg_in,
                 leg_out,
-            } => {
-                let stop = Stop {
-                    curve,
-                    leg: leg_in,
-                    mark: 0,
-                };
-                self.insert(place, stop, leg_out);
-            }
+            } => self.insert(place, Stop::new(curve, leg_in), leg_out),
             Splice::Remove { place, leg } => self.remove(place, leg),
             Splice::Change { place, curve } => self.change(place, curve),
         }
     }
 
-    // The marks in the table, with room for 64.
+    // The marks in the table, with room for those of the longest route.
     // Kept: fixed room, so that no splice wants memory.
-    pub(crate) fn marks(&self) -> [u16; 64]
+    pub(crate) fn marks(&self) -> [u16; MOST_STOPS]
         ensures marks { take (length self.now) result ≡ marks self.now }
         ensures room { length result ≡ 64 }
     {
-        let mut marks = [0; 64];
+        let mut marks = [0; MOST_STOPS];
         // Kept: by number, since of what a `zip` over `iter_mut` writes a proof knows nothing (tried).
         for (i, stop) in self.stops.iter().enumerate() {
             marks[i] = stop.mark;

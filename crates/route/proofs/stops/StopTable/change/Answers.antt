@@ -11,5 +11,5 @@ returns c =
     let p = c.args.place in
     let s = c.index_mut-stop.result.now in
     let us = set ss (p - 1) (with_curve s c.args.curve) in
-    let to = subst (λ (l : List Stop). p ≤ length l) (sym c.self.view_is) c.requires.to in
-    subst (λ (l : List Stop). Altered l (Change p c.args.curve) us) c.self.view_is (change_altered ss us p c.args.curve s c.requires.from to c.index_mut-stop.ensures.value refl)
+    let to = subst (λ (l : List Stop). p ≤ length l) (sym c.self.view_is) c.requires.1 in
+    subst (λ (l : List Stop). Altered l (Change p c.args.curve) us) c.self.view_is (change_altered ss us p c.args.curve s c.requires.0 to c.index_mut-stop.ensures.value refl)
