@@ -37,11 +37,7 @@ impl Progress {
     fn fault(self, cause: Cause) -> Fault
         ensures { result ≡ fault_of self cause }
     {
-        Fault {
-            cause,
-            count: self.count,
-            byte: self.byte,
-        }
+        cause.fault(self.count, self.byte)
     }
 
     // The route refuses the call of the next record.

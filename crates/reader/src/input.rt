@@ -45,5 +45,6 @@ fn read_front<R: Read + Drop>(heap: Global, input: R, most: u64) -> io::Result<V
 pub fn read_whole<R: Read + Drop>(heap: Global, input: R) -> io::Result<Vec<u8>>
     ensures { IfOk result (λ v. IfSome (R.remaining input) (λ xs. v.items ≡ take 4097 xs)) }
 {
+    // Kept: `as`, since std has no `From` from usize to u64.
     read_front(heap, input, ENOUGH as u64)
 }
