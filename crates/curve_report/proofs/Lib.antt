@@ -1,3 +1,4 @@
 mod Open
 mod Once
 mod Front
+mod FactsLine

@@ -5,6 +5,7 @@ use Rattle.source.specs.declared.due.DueRow.{DueRow}
 use Rattle.source.specs.Meaning.{span_of}
 use Rattle.source.specs.Due.{due_meaning}
 use Rattle.source.specs.Cheapest.{Cheapest}
+use Rattle.curve_report.specs.declared.lines.CurveFacts.{CurveFacts}
 
 -- the byte that ends a line
 abbrev pub ended : List ℕ
@@ -14,6 +15,15 @@ abbrev pub line_of : ℕ → ℕ → ℕ → ℕ → ℕ → List ℕ
 line_of curve first last minute price =
     codes "curve " ++ (decimal curve ++ (codes " first " ++ (decimal first ++ (codes " last " ++ (decimal last
     ++ (codes " cheapest " ++ (decimal minute ++ (codes " cost " ++ (decimal price ++ ended)))))))))
+
+-- what is told of a curve, without the end of its line
+abbrev pub facts_text : CurveFacts → List ℕ
+facts_text f =
+    codes "curve " ++ (decimal f.curve ++ (codes " first " ++ (decimal f.first ++ (codes " last " ++ (decimal f.last
+    ++ (codes " cheapest " ++ (decimal f.minute ++ (codes " cost " ++ decimal f.price))))))))
+
+abbrev pub facts_line : CurveFacts → List ℕ
+facts_line f = line_of f.curve f.first f.last f.minute f.price
 
 -- the line of a curve: its window, and the earliest of its minutes of least cost with that cost
 pub record CurveLine (rows : List DueRow) (curve : ℕ) (line : List ℕ) : Type 0 where

@@ -1,22 +1,41 @@
-ghost use Rattle.std.specs.Prelude.{◌≡◌, IfOk, string_bytes};
-ghost use Rattle.curve_report.specs.Lines.{line_of, CurveLine, IsOpen, rows_line};
+ghost use Rattle.std.specs.Prelude.{◌≡◌, Some, IfOk, string_bytes};
+ghost use Rattle.curve_report.specs.Lines.{facts_text, facts_line, CurveLine, IsOpen, rows_line};
 
 use source::cheapest::cheapest;
 use source::due::DueBook;
 use source::source::Source;
 use std::alloc::{AllocError, Global};
+use std::fmt;
+use std::fmt::{Display, Formatter};
 
-fn put_line(
-    heap: Global,
+// What is told of a curve: its number, its window, and the earliest of its minutes of least cost with that cost.
+#[derive(Clone, Copy)]
+struct CurveFacts {
     curve: u8,
     first: u16,
     last: u16,
     minute: u16,
     price: u64,
-) -> Result<String, AllocError>
-    ensures { IfOk result (λ s. string_bytes s ≡ line_of curve first last minute price) }
+}
+
+// Words and numbers, in the order of the fields.
+impl Display for CurveFacts {
+    ghost output = { λ f. Some (facts_text f) };
+
+    fn fmt<W: fmt::Write>(&self, f: &mut Formatter<W>) -> fmt::Result {
+        write!(
+            f,
+            "curve {} first {} last {} cheapest {} cost {}",
+            self.curve, self.first, self.last, self.minute, self.price
+        )
+    }
+}
+
+#[tactic(auto, using(crate::proofs::FactsLine::line_ended))]
+fn facts_line(heap: Global, facts: CurveFacts) -> Result<String, AllocError>
+    ensures { IfOk result (λ s. string_bytes s ≡ facts_line facts) }
 {
-    format!(in heap; "curve {curve} first {first} last {last} cheapest {minute} cost {price}\n")
+    format!(in heap; "{facts}\n")
 }
 
 // The line of an open curve.
@@ -27,10 +46,17 @@ pub(crate) fn curve_line(heap: Global, book: &DueBook, curve: u8) -> Result<Stri
     let Some((first, last)) = book.window(curve) else {
         unreachable()
     };
-    let Some(best) = cheapest(book, curve) else {
+    let Some((minute, price)) = cheapest(book, curve) else {
         unreachable()
     };
-    put_line(heap, curve, first, last, best.0, best.1.units())
+    let facts = CurveFacts {
+        curve,
+        first,
+        last,
+        minute,
+        price: price.units(),
+    };
+    facts_line(heap, facts)
 }
 
 // How many rows there are.

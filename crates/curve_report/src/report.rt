@@ -37,6 +37,7 @@ fn rows_text(heap: Global, rows: &[DueRow]) -> Result<String, AllocError>
 {
     let count = rows.len();
     let book = DueBook::of_rows(heap, rows)?;
+    // Kept: `as`, since std has no `From` from usize to u8, and there are 64 rows at the most.
     let mut text = curve_lines(heap, &book, count as u8)?;
     let last = rows_line(heap, count)?;
     text.push_str(last.as_str())?;
@@ -44,7 +45,8 @@ fn rows_text(heap: Global, rows: &[DueRow]) -> Result<String, AllocError>
 }
 
 // What is printed of a strip whose rows are lawful.
-fn strip_text(heap: Global, strip: &Strip<'_>) -> Result<String, AllocError>
+#[tactic(auto, using(crate::proofs::Front::few_rows, crate::proofs::Front::open_rows))]
+fn held_rows_text(heap: Global, strip: &Strip<'_>) -> Result<String, AllocError>
     ensures { IfOk result (λ s. PrintsOnly strip.now.bytes.now (string_bytes s)) }
 {
     rows_text(heap, strip.rows.as_slice())
@@ -56,7 +58,7 @@ pub fn curves_text(heap: Global, strip: &[u8]) -> Result<String, AllocError>
     ensures { IfOk result (λ s. PrintsOnly strip.now (string_bytes s)) }
 {
     match Strip::read(heap, strip)? {
-        Ok(strip) => strip_text(heap, &strip),
+        Ok(strip) => held_rows_text(heap, &strip),
         Err(fault) => fault_line(heap, fault),
     }
 }

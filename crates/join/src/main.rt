@@ -25,7 +25,7 @@ fn read_strip(rt: &HostRuntime, path: &str) -> Result<Vec<u8>> {
 // A leg past 16 bits is too long however long it is.
 fn leg_of(word: &str) -> Option<u16> {
     let leg = word.parse::<u64>().ok()?;
-    Some(leg.min(65535) as u16)
+    Some(u16::try_from(leg).unwrap_or(u16::MAX))
 }
 
 // What is printed of the join that the arguments ask for.
@@ -50,4 +50,54 @@ fn main(rt: HostRuntime) -> Result<()> {
     let text = joined(&rt, args.as_slice())?;
     rt.stdout().write_all(text.as_slice())?;
     Ok(())
+}
+
+#[cfg(test)]
+mod tests {
+    use crate::{USAGE, joined, leg_of};
+    use std::alloc::{AllocError, Global};
+    use std::test::Fail;
+
+    fn arguments(heap: Global, line: &str) -> Result<Vec<String>, AllocError> {
+        let mut words = Vec::new(heap);
+        for word in line.split(' ') {
+            words.push(String::from_str(heap, word)?)?;
+        }
+        Ok(words)
+    }
+
+    // What stands behind `Error: ` on standard error, or nothing.
+    fn complaint(rt: &HostRuntime, line: &str) -> Result<String, AllocError> {
+        let args = arguments(rt.alloc(), line)?;
+        match joined(rt, args.as_slice()) {
+            Ok(_) => Ok(String::new(rt.alloc())),
+            Err(error) => format!(in rt.alloc(); "{error}"),
+        }
+    }
+
+    #[test]
+    fn wrong_arguments(rt: HostRuntime) -> Result<(), Fail> {
+        for line in [
+            "join",
+            "join a.strip 1 0 b.strip",
+            "join a.strip 1 0 b.strip 1 1",
+            "join a.strip one 0 b.strip 1",
+            "join a.strip 1 -1 b.strip 1",
+            "join a.strip 1 0 b.strip 1.5",
+        ] {
+            let told = complaint(&rt, line)?;
+            assert!(rt; told.as_str() == USAGE);
+        }
+        Ok(())
+    }
+
+    #[test]
+    fn legs_past_their_words(rt: HostRuntime) {
+        assert_eq!(rt; leg_of("600"), Some(600));
+        assert_eq!(rt; leg_of("65535"), Some(65535));
+        assert_eq!(rt; leg_of("65536"), Some(65535));
+        assert_eq!(rt; leg_of("18446744073709551615"), Some(65535));
+        assert_eq!(rt; leg_of("18446744073709551616"), None);
+        assert_eq!(rt; leg_of("ten"), None);
+    }
 }

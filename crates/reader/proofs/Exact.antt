@@ -237,7 +237,7 @@ held_by bytes (Ok k) got count read =
 held_by bytes (Err f) got count read = cc
 
 -- what a strip holds, by what reading it answered
-abbrev strip_by : List ℕ → Result RowsRead Fault → Result (List DueRow × ℕ) Fault
+abbrev pub strip_by : List ℕ → Result RowsRead Fault → Result (List DueRow × ℕ) Fault
 strip_by bytes (Ok got) = Ok (rows_of bytes 64, got.calls)
 strip_by bytes (Err f) = Err f
 

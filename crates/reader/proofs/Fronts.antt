@@ -5,16 +5,12 @@ use Rattle.reader.specs.declared.faults.Fault.{Fault}
 use Rattle.reader.specs.declared.rows.RowsRead.{RowsRead}
 use Rattle.reader.specs.Reading.{rows_answer, rows_of, strip_answer}
 use Rattle.reader.specs.Exactly.{Holds}
-use Rattle.reader.proofs.Exact.{answer_holds, holds_one}
+use Rattle.reader.proofs.Exact.{strip_by, answer_holds, holds_one}
 
 -- the rows that a strip holds, and no others
 pub record Front (strip : List ℕ) (got : RowsRead) (rows : List DueRow) : Type 0 where
   pub holds : Holds strip rows got.calls
   pub alone : (held : List DueRow) → Holds strip held got.calls → held ≡ rows
-
-abbrev strip_by : List ℕ → Result RowsRead Fault → Result (List DueRow × ℕ) Fault
-strip_by bytes (Ok got) = Ok (rows_of bytes 64, got.calls)
-strip_by bytes (Err f) = Err f
 
 read_by : (bytes : List ℕ) (rows : List DueRow) (calls : ℕ) (r : Result RowsRead Fault) → strip_by bytes r ≡ Ok (rows, calls) → (got : RowsRead) × (Ok got ≡ r) × (got.calls ≡ calls)
 read_by bytes rows calls (Ok got) e =

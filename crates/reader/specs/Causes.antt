@@ -16,6 +16,10 @@ cause_number Unlawful = 10
 cause_number CallMap = 11
 cause_number (Route refusal) = number refusal
 
+-- the fault of a record, with how many stand before it and the byte where it begins
+abbrev pub fault_at : Cause → ℕ → ℕ → Fault
+fault_at why count byte = record { cause = why; count = count; byte = byte }
+
 -- no row was read, and the fault is told at byte 0
 abbrev pub at_start : Cause → Fault
 at_start why = record { cause = why; count = 0; byte = 0 }

@@ -6,6 +6,7 @@ use crate::record::{Record, is_set};
 use route::stop::Splice;
 
 // The bits of a call's map. A field follows for each but the last, which says that a stop is taken out.
+// Kept: numbers and no enum, since they are the format's own, and a map is shifted by them.
 const CURVE: u32 = 0;
 
 const LEG_IN: u32 = 1;

@@ -1,5 +1,6 @@
 ghost use Rattle.std.specs.Prelude.{◌≡◌, ◌<◌, ◌≤◌};
 ghost use Rattle.route.specs.Calls.{Spliced};
+ghost use Rattle.reader.specs.declared.faults.Cause.TheVariants.{CutOff};
 ghost use Rattle.reader.specs.CallRecords.{call_at};
 ghost use Rattle.reader.specs.Running.{fault_of, read_at, refused_at, begin, advanced, answer_of, Told};
 ghost use Rattle.reader.specs.Ran.{CallRan, Ran};
@@ -37,11 +38,7 @@ impl Progress {
     fn fault(self, cause: Cause) -> Fault
         ensures { result ≡ fault_of self cause }
     {
-        Fault {
-            cause,
-            count: self.count,
-            byte: self.byte,
-        }
+        cause.fault(self.count, self.byte)
     }
 
     // The route refuses the call of the next record.
@@ -97,16 +94,23 @@ fn run_call<S: Source>(
     Ok(here.advanced(next))
 }
 
+// The fault of calls that are said to begin at a byte past the strip's end.
+fn past_end(at: usize) -> Fault
+    ensures { result ≡ fault_of (begin at) CutOff }
+{
+    Cause::CutOff.fault(0, at)
+}
+
 // Runs the calls from a byte of the strip on, and answers how many were accepted. It ends at the first fault; the calls
 // accepted before it stand.
 pub fn run_calls<S: Source>(route: &mut Route<S>, strip: &[u8], at: usize) -> Result<usize, Fault>
     ensures source { route.new.source ≡ route.old.source }
     ensures ran { Ran S.Kind.Cost.algebra (S.Source.meaning route.old.source) strip.now at route.old.stops result route.new.stops }
 {
-    let mut here = Progress::begin(at);
     if strip.len() < at {
-        return Err(here.fault(Cause::CutOff));
+        return Err(past_end(at));
     }
+    let mut here = Progress::begin(at);
     // Kept: a `while`, since each record tells where the next one begins.
     while here.byte < strip.len() {
         here = run_call(route, strip, here)?;

@@ -1,5 +1,5 @@
 ghost use Rattle.std.specs.Prelude.{◌≡◌};
-ghost use Rattle.reader.specs.Causes.{cause_number, at_start, carried};
+ghost use Rattle.reader.specs.Causes.{cause_number, fault_at, at_start, carried};
 ghost use Rattle.reader.specs.FaultLine.{stop_in};
 
 use route::stop::Refusal;
@@ -32,6 +32,8 @@ pub struct Fault {
 }
 
 // A call that the route refused, the count of those accepted before it, and the byte where its record begins.
+// Kept: a type beside `Fault`, since its cause can only be the route's: what the route itself answered is promised of it,
+// and `?` turns it by `From` into the fault that carries the refusal.
 #[derive(Clone, Copy, PartialEq, Eq, Debug)]
 pub struct RefusedCall {
     pub refusal: Refusal,
@@ -66,15 +68,22 @@ impl Cause {
         }
     }
 
+    // The fault of the record that begins at a byte, so many having been read or accepted before it.
+    pub(crate) fn fault(self, count: usize, byte: usize) -> Fault
+        ensures { result ≡ fault_at self count byte }
+    {
+        Fault {
+            cause: self,
+            count,
+            byte,
+        }
+    }
+
     // The fault of a strip that is refused as a whole.
     pub(crate) fn at_start(self) -> Fault
         ensures { result ≡ at_start self }
     {
-        Fault {
-            cause: self,
-            count: 0,
-            byte: 0,
-        }
+        self.fault(0, 0)
     }
 }
 
@@ -83,10 +92,6 @@ impl From<RefusedCall> for Fault {
     ghost from_gives = { λ call fault. fault ≡ carried call };
 
     fn from(call: RefusedCall) -> Fault {
-        Fault {
-            cause: Cause::Route(call.refusal),
-            count: call.count,
-            byte: call.byte,
-        }
+        Cause::Route(call.refusal).fault(call.count, call.byte)
     }
 }

@@ -32,6 +32,7 @@ pub fn read_strip<R: Read>(input: &mut R, buffer: &mut [u8]) -> io::Result<usize
 }
 
 // Reads an input to its end, or so many bytes of it.
+#[tactic(auto, using(crate::proofs::Whole::taken_front))]
 fn read_front<R: Read + Drop>(heap: Global, input: R, most: u64) -> io::Result<Vec<u8>>
     ensures { IfOk result (λ v. IfSome (R.remaining input) (λ xs. v.items ≡ take most xs)) }
 {
@@ -45,5 +46,6 @@ fn read_front<R: Read + Drop>(heap: Global, input: R, most: u64) -> io::Result<V
 pub fn read_whole<R: Read + Drop>(heap: Global, input: R) -> io::Result<Vec<u8>>
     ensures { IfOk result (λ v. IfSome (R.remaining input) (λ xs. v.items ≡ take 4097 xs)) }
 {
+    // Kept: `as`, since std has no `From` from usize to u64.
     read_front(heap, input, ENOUGH as u64)
 }

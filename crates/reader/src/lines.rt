@@ -13,6 +13,7 @@ impl Display for Fault {
 
     fn fmt<W: Write>(&self, f: &mut Formatter<W>) -> fmt::Result {
         write!(f, "fault {} byte {}", self.cause.number(), self.byte)?;
+        // Kept: the stop by hand, though a refusal prints it too, since here the byte stands between the number and the stop.
         match self.cause.stop() {
             Some(stop) => write!(f, " stop {stop}"),
             None => Ok(()),

@@ -6,6 +6,7 @@ use crate::record::Record;
 use source::due::DueRow;
 
 // The bits of a row's map.
+// Kept: numbers and no enum, since they are the format's own, and a map is shifted by them.
 const FIRST: u32 = 0;
 
 const LAST: u32 = 1;

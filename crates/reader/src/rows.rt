@@ -38,11 +38,7 @@ fn read_entry(strip: &[u8], done: usize, at: usize, entry: &mut DueRow) -> Resul
     ensures answer { result ≡ past_row strip.now done at }
     ensures entry { entry.new ≡ entry_after strip.now at entry.old }
 {
-    let (row, next) = read_row(strip, at).map_err(|cause| Fault {
-        cause,
-        count: done,
-        byte: at,
-    })?;
+    let (row, next) = read_row(strip, at).map_err(|cause| cause.fault(done, at))?;
     *entry = row;
     Ok(next)
 }

@@ -28,6 +28,7 @@ impl<'a> Strip<'a> {
     }
 
     // Reads a strip's rows, or tells its fault.
+    // Kept: two results, since who calls hands a want of memory on by `?` and prints a fault as what is asked for.
     #[tactic(auto, using(crate::proofs::Exact::front_holds, crate::proofs::Exact::holds_none))]
     pub fn read(heap: Global, bytes: &'a [u8]) -> Result<Result<Strip<'a>, Fault>, AllocError>
         ensures same { IfOk result (λ r. IfOk r (λ strip. strip.bytes.now ≡ bytes.now)) }

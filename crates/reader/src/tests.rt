@@ -1,10 +1,12 @@
+use crate::calls::run_calls;
 use crate::faults::{Cause, Fault, RefusedCall};
 use crate::input::{read_strip, read_whole};
 use crate::lines::fault_line;
 use crate::rows::read_rows;
 use crate::strip::Strip;
-use route::stop::Refusal;
-use source::due::DueRow;
+use route::stop::{Facts, Refusal};
+use route::table::Route;
+use source::due::{DueBook, DueRow};
 use std::test::Fail;
 
 fn row(first: u16, last: u16, due: u16, early: u16, late: u16) -> DueRow {
@@ -128,6 +130,34 @@ fn strips_are_read_with_their_rows(rt: HostRuntime) -> Result<(), Fail> {
         byte: 2,
     };
     assert_eq!(rt; Strip::read(rt.alloc(), &[2, 0, 0x20])?.err(), Some(fault));
+    Ok(())
+}
+
+// The one call begins at byte 8, and the strip has 10 bytes.
+#[test]
+fn calls_that_begin_at_the_end_or_past_it(rt: HostRuntime) -> Result<(), Fail> {
+    let strip = [1, 0x1C, 0x02, 0x58, 0, 5, 0, 3, 0x01, 0];
+    let book = DueBook::of_rows(rt.alloc(), &[row(0, 1440, 600, 5, 3)])?;
+    let mut route = Route::open(rt.alloc(), book)?;
+    assert_eq!(rt; run_calls(&mut route, &strip, 8), Ok(1));
+    let stop = Facts {
+        curve: 0,
+        leg: 0,
+        mark: 600,
+        minute: 600,
+    };
+    assert_eq!(rt; route.facts(1), Ok(stop));
+    assert_eq!(rt; run_calls(&mut route, &strip, 10), Ok(0));
+    assert_eq!(rt;
+        run_calls(&mut route, &strip, 11),
+        Err(Cause::CutOff.fault(0, 11))
+    );
+    assert_eq!(rt;
+        run_calls(&mut route, &strip, 13),
+        Err(Cause::CutOff.fault(0, 13))
+    );
+    assert_eq!(rt; route.stop_count(), 1);
+    assert_eq!(rt; route.facts(1), Ok(stop));
     Ok(())
 }
 

@@ -10,7 +10,11 @@ use Rattle.source.specs.Due.{row_lawful, lateness, due_curve, due_meaning}
 use Rattle.source.specs.Layers.{common}
 use Rattle.route.proofs.Windows.{SameWindows}
 use Rattle.reader.specs.Spelling.{Rows}
-use Rattle.strip_report.specs.Printed.{promised, AllLawful}
+use Rattle.strip_report.specs.Printed.{promised}
+
+-- each row that there is, is lawful
+abbrev pub AllLawful : List DueRow → Type 0
+AllLawful rows = (k : ℕ) (row : DueRow) → slice_get rows k ≡ Some row → row_lawful row ≡ true
 
 none_some : {A : Type 0} (x : A) → ◌≡◌ {A = Option A} None (Some x) → ⊥
 none_some x e = let z : ◌≡◌ {A = ℕ} 0 1 = cc in omega arith

@@ -19,8 +19,8 @@ use Rattle.reader.specs.CallLaws.{answers_in}
 use Rattle.reader.proofs.Fronts.{Front, front}
 use Rattle.reader.proofs.SameCalls.{calls_same, calls_one}
 use Rattle.strip_report.specs.Shown.{StripReport}
-use Rattle.strip_report.specs.Printed.{promised, both, strip_text, Reports, PrintedBy, PrintsOnly, AllLawful}
-use Rattle.strip_report.proofs.Late.{all_lawful, late_windows}
+use Rattle.strip_report.specs.Printed.{promised, both, strip_text, Reports, PrintedBy, PrintsOnly}
+use Rattle.strip_report.proofs.Late.{AllLawful, all_lawful, late_windows}
 
 module _ {E : Type 0} (K : Algebra E) (text : E → List ℕ) (m : Meaning E) (strip : List ℕ) (from : ℕ) where
   -- a strip is answered in one way, and has one report

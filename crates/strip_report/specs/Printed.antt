@@ -1,12 +1,11 @@
 -- What is printed of a strip: the report by money, the report by promise, and how its calls ended. Assumes nothing.
-use Rattle.std.specs.Prelude.{◌≡◌, ℕ, true, List, [], ◌∷◌, ◌++◌, map, Some, Ok, Err, codes, decimal, Result}
-use Rattle.std.specs.List.{slice_get}
+use Rattle.std.specs.Prelude.{◌≡◌, ℕ, List, [], ◌∷◌, ◌++◌, map, Ok, Err, codes, decimal, Result}
 use Rattle.cost.specs.Amounts.{whole}
 use Rattle.cost.specs.Pairs.{paired}
 use Rattle.cost.specs.Texts.{spaced}
 use Rattle.source.specs.declared.due.DueRow.{DueRow}
 use Rattle.source.specs.Meaning.{Meaning}
-use Rattle.source.specs.Due.{row_lawful, lateness, due_meaning}
+use Rattle.source.specs.Due.{lateness, due_meaning}
 use Rattle.source.specs.Layers.{pairing}
 use Rattle.reader.specs.declared.faults.Fault.{Fault}
 use Rattle.reader.specs.declared.rows.RowsRead.{RowsRead}
@@ -61,9 +60,3 @@ Printed strip text = PrintedBy strip (rows_answer strip 64) text
 pub record PrintsOnly (strip text : List ℕ) : Type 0 where
   pub printed : Printed strip text
   pub only : (other : List ℕ) → Printed strip other → other ≡ text
-
--- words for the functions that make it
-
--- each row that there is, is lawful
-abbrev pub AllLawful : List DueRow → Type 0
-AllLawful rows = (k : ℕ) (row : DueRow) → slice_get rows k ≡ Some row → row_lawful row ≡ true

@@ -82,6 +82,7 @@ fn join_reports(
 
 // What is printed of two strips and the join of the first i stops that one leaves with those of the other from place
 // j on; a fault in the rows of either is printed alone.
+// Kept: the numbers one by one, as the route's `join` takes them.
 #[tactic(auto, using(crate::proofs::JoinOnly::first_fault, crate::proofs::JoinOnly::second_fault))]
 pub fn join_text(
     heap: Global,

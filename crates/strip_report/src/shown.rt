@@ -22,6 +22,7 @@ pub(crate) struct Shown<S: Source> {
 }
 
 // The bytes of a route's report.
+// Kept: a buffer that is cut to its length afterwards, since a report is written into one that is lent.
 fn report_bytes<S: Source>(heap: Global, route: &Route<S>) -> Result<Vec<u8>, AllocError>
 where
     S::Kind: Written<S::Exact>,

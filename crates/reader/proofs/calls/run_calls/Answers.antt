@@ -1,8 +1,5 @@
-use Rattle.std.proofs.Common.{◌<◌, length, ap, ◌∙◌, subst, arith}
+use Rattle.std.proofs.Common.{◌<◌, length, ◌∙◌, subst, arith}
 use Rattle.std.proofs.lemmas.Result.{err_from_is_err_and}
-use Rattle.reader.specs.declared.faults.Cause.TheVariants.{CutOff}
-use Rattle.reader.specs.declared.calls.Progress.{Progress}
-use Rattle.reader.specs.Running.{fault_of}
 use Rattle.reader.specs.Ran.{CallRan}
 use Rattle.reader.proofs.Running.{Onward, Further, turn, turn_further, fault_turn, last_turn, past_end}
 use Rattle.reader.proofs.calls.run_calls.Given as given
@@ -31,7 +28,7 @@ turned g c =
 
 pub returns-then-strip-at-clause-ran : goal.returns-then-strip-at-clause-ran
 returns-then-strip-at-clause-ran g c =
-    past_end g.S.Kind.Cost.algebra (g.S.Source.meaning c.args.route.now.source) c.args.strip.now c.args.at c.args.route.now.stops c.fault.result (omega arith) (c.fault.ensures ∙ ap (λ (p : Progress). fault_of p CutOff) c.begin-here.ensures)
+    past_end g.S.Kind.Cost.algebra (g.S.Source.meaning c.args.route.now.source) c.args.strip.now c.args.at c.args.route.now.stops c.past_end.result (omega arith) c.past_end.ensures
 
 pub returns-in_err-here : goal.returns-in_err-here
 returns-in_err-here g c =
