@@ -1,5 +1,4 @@
 pub mod Checks
 pub mod Proved
 mod Growing
-mod FactsLines
 mod LastLines

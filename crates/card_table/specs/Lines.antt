@@ -2,17 +2,13 @@
 use Rattle.std.specs.Prelude.{ℕ, ◌+◌, List, [], ◌∷◌, ◌++◌, Ok, Err, Result, codes, decimal}
 use Rattle.route.specs.declared.stop.Facts.{Facts}
 use Rattle.route.specs.declared.stop.Refusal.{Refusal}
+use Rattle.route.specs.FactsText.{facts_text}
 use Rattle.route.specs.Refusals.{refusal_text}
 use Rattle.route.specs.Judged.{Answer}
 
-abbrev pub facts_text : (place curve leg mark minute : ℕ) → List ℕ
-facts_text place curve leg mark minute =
-    codes "stop " ++ (decimal place ++ (codes " curve " ++ (decimal curve ++ (codes " leg " ++ (decimal leg
-    ++ (codes " mark " ++ (decimal mark ++ (codes " minute " ++ (decimal minute ++ (10 ∷ []))))))))))
-
 -- the line of the stop at a place
 abbrev pub facts_line : ℕ → Facts → List ℕ
-facts_line place f = facts_text place f.curve f.leg f.mark f.minute
+facts_line place f = codes "stop " ++ (decimal place ++ (codes " " ++ (facts_text f ++ (10 ∷ []))))
 
 -- a line for each stop; the first of them is at this place
 abbrev pub facts_lines : ℕ → List Facts → List ℕ

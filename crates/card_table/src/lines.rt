@@ -6,7 +6,6 @@ use std::alloc::{AllocError, Global};
 use std::fmt::Display;
 
 // The line of the stop at a place.
-#[tactic(auto, using(crate::proofs::FactsLines::line_ended))]
 fn facts_line(heap: Global, place: usize, facts: &Facts) -> Result<String, AllocError>
     ensures { IfOk result (λ s. string_bytes s ≡ facts_line place facts.now) }
 {

@@ -1,4 +1,3 @@
 mod Open
 mod Once
 mod Front
-mod FactsLine

@@ -11,11 +11,6 @@ use Rattle.curve_report.specs.declared.lines.CurveFacts.{CurveFacts}
 abbrev pub ended : List ℕ
 ended = 10 ∷ []
 
-abbrev pub line_of : ℕ → ℕ → ℕ → ℕ → ℕ → List ℕ
-line_of curve first last minute price =
-    codes "curve " ++ (decimal curve ++ (codes " first " ++ (decimal first ++ (codes " last " ++ (decimal last
-    ++ (codes " cheapest " ++ (decimal minute ++ (codes " cost " ++ (decimal price ++ ended)))))))))
-
 -- what is told of a curve, without the end of its line
 abbrev pub facts_text : CurveFacts → List ℕ
 facts_text f =
@@ -23,7 +18,10 @@ facts_text f =
     ++ (codes " cheapest " ++ (decimal f.minute ++ (codes " cost " ++ decimal f.price))))))))
 
 abbrev pub facts_line : CurveFacts → List ℕ
-facts_line f = line_of f.curve f.first f.last f.minute f.price
+facts_line f = facts_text f ++ ended
+
+abbrev pub line_of : ℕ → ℕ → ℕ → ℕ → ℕ → List ℕ
+line_of curve first last minute price = facts_line (record { curve = curve; first = first; last = last; minute = minute; price = price })
 
 -- the line of a curve: its window, and the earliest of its minutes of least cost with that cost
 pub record CurveLine (rows : List DueRow) (curve : ℕ) (line : List ℕ) : Type 0 where

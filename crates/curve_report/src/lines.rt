@@ -31,7 +31,7 @@ impl Display for CurveFacts {
     }
 }
 
-#[tactic(auto, using(crate::proofs::FactsLine::line_ended))]
+// The line of a curve.
 fn facts_line(heap: Global, facts: CurveFacts) -> Result<String, AllocError>
     ensures { IfOk result (λ s. string_bytes s ≡ facts_line facts) }
 {

@@ -3,7 +3,6 @@ mod Tables
 mod Spelling
 pub mod Exact
 mod CallSpelling
-mod Words
 mod CallRuns
 mod Running
 pub mod Fronts
