@@ -1,4 +1,3 @@
 pub mod Checks
 pub mod Proved
 mod Growing
-mod LastLines

@@ -1,5 +1,6 @@
 -- The lines that are printed of a card. Assumes nothing.
 use Rattle.std.specs.Prelude.{ℕ, ◌+◌, List, [], ◌∷◌, ◌++◌, Ok, Err, Result, codes, decimal}
+use Rattle.cost.specs.Texts.{spaced}
 use Rattle.route.specs.declared.stop.Facts.{Facts}
 use Rattle.route.specs.declared.stop.Refusal.{Refusal}
 use Rattle.route.specs.FactsText.{facts_text}
@@ -38,7 +39,7 @@ least_text c = codes "least " ++ (decimal c ++ (10 ∷ []))
 
 -- the last line of a card by promise: minutes late, then money
 abbrev pub least_pair_text : ℕ → ℕ → List ℕ
-least_pair_text late c = codes "least " ++ (decimal late ++ (32 ∷ (decimal c ++ (10 ∷ []))))
+least_pair_text late c = codes "least " ++ (spaced (decimal late) (decimal c) ++ (10 ∷ []))
 
 -- the last line of a join: its least cost, or why there is none
 abbrev pub joined_text : List ℕ → Result ℕ Refusal → List ℕ

@@ -103,7 +103,6 @@ pub fn least_line(heap: Global, least: u64) -> Result<String, AllocError>
 }
 
 // The last line of a card by promise: minutes late, then money.
-#[tactic(auto, using(crate::proofs::LastLines::pair_ended))]
 pub fn least_pair_line(heap: Global, late: u64, least: u64) -> Result<String, AllocError>
     ensures { IfOk result (λ s. string_bytes s ≡ least_pair_text late least) }
 {
