@@ -3,13 +3,16 @@
 
 #[cfg(test)]
 mod tests {
+    use bend_book::bend::{Bend, BendBook, BendHead};
     use cost::amount::Amount;
+    use route::join::join;
     use route::run::whole_run;
     use route::splice;
     use route::stop::{Facts, Refusal, Splice};
     use route::table::Route;
     use source::due::{DueBook, DueRow};
     use source::pairing::Pairing;
+    use source::weight::Weight;
     use std::alloc::{AllocError, Global};
     use std::process::Abort;
     use std::test::Fail;
@@ -223,6 +226,135 @@ mod tests {
         assert_eq!(rt; outcome.second.least.units(), 10);
         assert_eq!(rt; outcome.second.count, 2);
         assert_eq!(rt; outcome.joined?.units(), 5);
+        Ok(())
+    }
+
+    // Two stops: curve 0, then curve 1 by a leg of 10 minutes.
+    fn two_stops(heap: Global) -> Result<Route<DueBook>, Fail> {
+        let mut route = Route::open(heap, book(heap, &ROWS)?)?;
+        route.insert(1, 0, 0, 0)?;
+        route.insert(2, 1, 10, 0)?;
+        Ok(route)
+    }
+
+    // Of several refusals that fit, the first by the order of the examinations is given, and the route stays.
+    #[test]
+    fn refused_by_the_first(rt: HostRuntime) -> Result<(), Fail> {
+        let mut route = two_stops(rt.alloc())?;
+        assert_eq!(rt; route.insert(0, 9, 601, 601), Err(Refusal::Place));
+        assert_eq!(rt; route.insert(4, 9, 601, 601), Err(Refusal::Place));
+        assert_eq!(rt; route.insert(3, 9, 601, 0), Err(Refusal::Curve));
+        assert_eq!(rt; route.insert(1, 2, 601, 0), Err(Refusal::Leg));
+        assert_eq!(rt; route.insert(3, 2, 0, 601), Err(Refusal::Leg));
+        assert_eq!(rt; route.remove(0, 601), Err(Refusal::Place));
+        assert_eq!(rt; route.remove(3, 601), Err(Refusal::Place));
+        assert_eq!(rt; route.remove(2, 601), Err(Refusal::Leg));
+        assert_eq!(rt; route.change(0, 9), Err(Refusal::Place));
+        assert_eq!(rt; route.change(3, 9), Err(Refusal::Place));
+        assert_eq!(rt; route.change(2, 9), Err(Refusal::Curve));
+        assert_eq!(rt; route.facts(0), Err(Refusal::Place));
+        assert_eq!(rt; route.facts(3), Err(Refusal::Place));
+        reads(
+            &rt,
+            &route,
+            &[facts(0, 0, 600, 595), facts(1, 10, 605, 605)],
+            5,
+        )
+    }
+
+    // Stop 1 by another curve; then stop 2 by one whose window ends too soon.
+    #[test]
+    fn changed(rt: HostRuntime) -> Result<(), Fail> {
+        let mut route = two_stops(rt.alloc())?;
+        route.change(1, 2)?;
+        let two = [facts(2, 0, 590, 590), facts(1, 10, 605, 605)];
+        reads(&rt, &route, &two, 0)?;
+        route.remove(2, 0)?;
+        route.insert(2, 1, 21, 0)?;
+        assert_eq!(rt; route.change(2, 2), Err(Refusal::NoTimetable { stop: 2 }));
+        let apart = [facts(2, 0, 590, 590), facts(1, 21, 611, 611)];
+        reads(&rt, &route, &apart, 12)
+    }
+
+    // A route of 64 stops takes no other one, whatever its curve and its legs.
+    #[test]
+    fn full(rt: HostRuntime) -> Result<(), Fail> {
+        let mut route = Route::open(rt.alloc(), book(rt.alloc(), &ROWS)?)?;
+        for _ in 0..64 {
+            route.insert(1, 0, 0, 0)?;
+        }
+        assert_eq!(rt; route.insert(65, 9, 601, 601), Err(Refusal::Full));
+        assert_eq!(rt; route.insert(66, 9, 601, 601), Err(Refusal::Place));
+        assert_eq!(rt; route.stop_count(), 64);
+        assert_eq!(rt; route.facts(64)?, facts(0, 0, 600, 600));
+        Ok(())
+    }
+
+    // What a join answers, and its least cost in units.
+    fn joins(
+        a: &Route<DueBook>,
+        i: usize,
+        leg: u16,
+        b: &Route<DueBook>,
+        j: usize,
+    ) -> Result<u64, Refusal> {
+        Ok(join(a, i, leg, b, j)?.units())
+    }
+
+    #[test]
+    fn joins_refused(rt: HostRuntime) -> Result<(), Fail> {
+        let a = two_stops(rt.alloc())?;
+        let mut b = Route::open(rt.alloc(), book(rt.alloc(), &ROWS)?)?;
+        b.insert(1, 2, 0, 0)?;
+        assert_eq!(rt; joins(&a, 3, 601, &b, 1), Err(Refusal::Place));
+        assert_eq!(rt; joins(&a, 2, 601, &b, 0), Err(Refusal::Place));
+        assert_eq!(rt; joins(&a, 2, 601, &b, 3), Err(Refusal::Place));
+        assert_eq!(rt; joins(&a, 2, 601, &b, 2), Err(Refusal::Leg));
+        assert_eq!(rt; joins(&a, 2, 600, &b, 2), Ok(5));
+        assert_eq!(rt;
+            joins(&b, 1, 21, &b, 1),
+            Err(Refusal::NoTimetable { stop: 2 })
+        );
+        assert_eq!(rt; joins(&b, 1, 20, &b, 1), Ok(0));
+        Ok(())
+    }
+
+    // Open from 100 to 110, at 20 at first, 0 from 104 to 106, and 12 at last.
+    fn bends(heap: Global) -> Result<BendBook, AllocError> {
+        let head = BendHead {
+            first: 100,
+            last: 110,
+            start: 20,
+            from: 0,
+            count: 3,
+        };
+        let steps = [(100, -5), (104, 0), (106, 3)].map(|(minute, step)| Bend { minute, step });
+        Ok(BendBook::new([head].to_vec(heap)?, steps.to_vec(heap)?))
+    }
+
+    // Twice the pair of a due row, due at 107, and a curve by bends, over the minutes 102 to 108 that both have. Of the
+    // minutes 103 and 107 the first parts are 4 and 0 and the second ones 5 and 3.
+    #[test]
+    fn over_a_pile(rt: HostRuntime) -> Result<(), Fail> {
+        let due = DueRow {
+            first: 102,
+            last: 108,
+            due: 107,
+            early: 1,
+            late: 2,
+        };
+        let both = Pairing {
+            first: book(rt.alloc(), &[due])?,
+            second: bends(rt.alloc())?,
+        };
+        let mut route = Route::open(rt.alloc(), Weight::new(both, [2; 64]))?;
+        route.insert(1, 0, 0, 0)?;
+        route.insert(2, 0, 4, 0)?;
+        assert_eq!(rt; route.facts(1)?, facts(0, 0, 107, 103));
+        assert_eq!(rt; route.facts(2)?, facts(0, 4, 107, 107));
+        let least = route.least_cost();
+        assert_eq!(rt; least.first.units(), 8);
+        assert_eq!(rt; least.second.units(), 16);
         Ok(())
     }
 
