@@ -42,6 +42,7 @@ fn by_money(
 }
 
 // The rows by promise: minutes late, then money.
+// Kept: beside the like function of `strip_report`, since here the rows by minutes late come from the table of the cards.
 fn promise_books(heap: Global) -> Result<Pairing<DueBook, DueBook>, AllocError> {
     Ok(Pairing {
         first: DueBook::of_rows(heap, &late_rows())?,

@@ -59,6 +59,8 @@ fn the_largest_number_has_twenty_digits(rt: HostRuntime) {
     assert!(rt; buf == *b"18446744073709551615");
     assert_eq!(rt; u64::MAX.fits(20), Some(0));
     assert_eq!(rt; u64::MAX.fits(19), None);
+    assert_eq!(rt; usize::MAX.fits(20), Some(0));
+    assert_eq!(rt; usize::MAX.fits(19), None);
 }
 
 #[test]

@@ -35,7 +35,8 @@ pub trait Text {
 }
 
 // Puts a number in decimal.
-// Kept: digit by digit, since std prints a number only into a string on the heap or through a formatter.
+// Kept: digit by digit, since std prints a number only into a string on the heap or through a formatter, and the
+// engine uses no crate beyond std.
 #[tactic(auto, using(crate::proofs::Pieces::puts_digit, crate::proofs::Pieces::puts_last, crate::proofs::Pieces::puts_front))]
 fn put_decimal<T: Target>(n: u64, target: &mut T) -> Option<()>
     ensures { Puts T.model (decimal n) target.old target.new result }
@@ -43,6 +44,7 @@ fn put_decimal<T: Target>(n: u64, target: &mut T) -> Option<()>
     if n >= 10 {
         put_decimal(n / 10, target)?;
     }
+    // Kept: `as`, since the digit is less than 10 and std has no `From` from u64 to u8.
     target.put(&[b'0' + (n % 10) as u8])
 }
 
@@ -51,6 +53,15 @@ impl Text for u64 {
 
     fn put<T: Target>(&self, target: &mut T) -> Option<()> {
         put_decimal(*self, target)
+    }
+}
+
+impl Text for usize {
+    ghost bytes = { decimal };
+
+    fn put<T: Target>(&self, target: &mut T) -> Option<()> {
+        // Kept: `as`, since std has no `From` from usize to u64.
+        put_decimal(*self as u64, target)
     }
 }
 

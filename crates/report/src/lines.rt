@@ -7,7 +7,7 @@ use cost::text::Text;
 use route::stop::Facts;
 
 // Puts the line of the stop at a place.
-fn put_stop<T: Target>(place: u64, facts: &Facts, target: &mut T) -> Option<()>
+fn put_stop<T: Target>(place: usize, facts: &Facts, target: &mut T) -> Option<()>
     ensures { Puts T.model (stop_line place facts.now) target.old target.new result }
 {
     let stop = (*b"stop ", place);
@@ -27,10 +27,10 @@ impl<'a> Text for StopLines<'a> {
 
     #[tactic(auto, using(crate::proofs::Stops::stops_more, crate::proofs::Stops::stops_full, crate::proofs::Stops::count_full))]
     fn put<T: Target>(&self, target: &mut T) -> Option<()> {
-        let count = (*b"stops ", self.facts.len() as u64);
+        let count = (*b"stops ", self.facts.len());
         (count, *b"\n").put(target)?;
         for (i, stop) in self.facts.iter().enumerate() {
-            put_stop(i as u64 + 1, stop, target)?;
+            put_stop(i + 1, stop, target)?;
         }
         Some(())
     }

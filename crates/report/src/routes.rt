@@ -16,9 +16,7 @@ fn read_entry<S: Source>(route: &Route<S>, i: usize, entry: &mut Facts)
     requires few { i < 64 }
     ensures { (d : FactsOf) → entry.new ≡ slice_index_or (route_facts S.Kind.Cost.algebra (S.Source.meaning route.now.source) route.now.stops) i d }
 {
-    if let Ok(facts) = route.facts(i + 1) {
-        *entry = facts;
-    }
+    *entry = route.facts(i + 1).unwrap();
 }
 
 // Reads the facts of all stops into a table with an entry for each.

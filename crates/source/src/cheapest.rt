@@ -30,7 +30,6 @@ fn scan<S: Source>(source: &S, curve: u8, first: u16, last: u16) -> Option<(u16,
 {
     // With the peak comes the promise that no window is empty.
     let _ = source.peak();
-    // Kept: a `for` with the best so far, since `min_by` wants an `Ordering`, and a kind of costs has a test alone.
     let mut best = None;
     for minute in first..=last {
         best = cheaper(best, minute, source.cost(curve, minute));
