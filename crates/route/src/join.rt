@@ -31,7 +31,7 @@ impl JoinAt {
         requires { back ≤ 64 }
         ensures { refused_by result ≡ objection_to_join front self.i self.leg back self.j }
     {
-        Refusal::Place.refuse_if((front < self.i) | is_outside(self.j, back + 1))?;
+        Refusal::Place.refuse_if(front < self.i || is_outside(self.j, back + 1))?;
         Refusal::Leg.refuse_if(is_long(self.leg))
     }
 
