@@ -117,7 +117,8 @@ impl StopTable {
         ensures room { length result ≡ 64 }
     {
         let mut marks = [0; MOST_STOPS];
-        // Kept: by number, since of what a `zip` over `iter_mut` writes a proof knows nothing (tried).
+        // Kept: by number, since of what a `zip` over `iter_mut` writes a proof knows nothing, and from what `from_fn`
+        // tells of its calls the proof did not close (both tried).
         for (i, stop) in self.stops.iter().enumerate() {
             marks[i] = stop.mark;
         }
