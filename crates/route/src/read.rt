@@ -48,9 +48,10 @@ impl<S: Source> Route<S> {
         }
     }
 
-    // What is told of the stop at a place.
+    // What is told of the stop at a place; its minute is that of the best timetable.
     pub fn facts(&self, place: usize) -> Result<Facts, Refusal>
-        ensures { result ≡ facts_at self.now.stops (timed S.Kind.Cost.algebra (S.Source.meaning self.now.source) self.now.stops) place }
+        ensures told { result ≡ facts_at self.now.stops (timed S.Kind.Cost.algebra (S.Source.meaning self.now.source) self.now.stops) place }
+        ensures best { Best S.Kind.Cost.algebra (line S.Kind.Cost.algebra (S.Source.meaning self.now.source) self.now.stops) (timed S.Kind.Cost.algebra (S.Source.meaning self.now.source) self.now.stops) }
     {
         let stops = self.stops.as_slice();
         Refusal::Place.refuse_if(is_outside(place, stops.len()))?;
@@ -75,7 +76,7 @@ impl<S: Source> Route<S> {
 
     // The least cost of all timetables of the route: that of the timetable which the facts tell. With it comes what
     // every route keeps.
-    #[tactic(auto, using(crate::proofs::Readings::marked_best, crate::proofs::Readings::loaded_least, crate::proofs::Splices::same_line))]
+    #[tactic(auto, using(crate::proofs::Readings::kept_best, crate::proofs::Readings::loaded_least, crate::proofs::Splices::same_line))]
     pub fn least_cost(&self) -> S::Kind
         ensures kept { Kept S.Kind.Cost.algebra (S.Source.meaning self.now.source) self.now.stops }
         ensures best { Best S.Kind.Cost.algebra (line S.Kind.Cost.algebra (S.Source.meaning self.now.source) self.now.stops) (timed S.Kind.Cost.algebra (S.Source.meaning self.now.source) self.now.stops) }
