@@ -11,11 +11,10 @@ use Rattle.timing.proofs.Timings.{bill_size}
 use Rattle.route.specs.declared.stop.Stop.{Stop}
 use Rattle.route.specs.Plain.{visit, seen}
 use Rattle.route.specs.Table.{plain, plains, marks, line, Marked}
-use Rattle.route.specs.Calls.{timed}
+use Rattle.route.specs.Calls.{timed, all_facts, route_facts}
 use Rattle.route.specs.Joins.{Least}
 use Rattle.route.proofs.Soundness.{lawful_sound}
 use Rattle.report.specs.Bounds.{Ordinary}
-use Rattle.report.specs.Routes.{all_facts, route_facts}
 
 module _ {E : Type 0} (K : Algebra E) (m : Meaning E) (law : Lawful K m) where
   -- a curve that is served is one of 0 to 63, and its minute one of the day

@@ -5,9 +5,8 @@ use Rattle.cost.specs.Algebra.{Algebra}
 use Rattle.source.specs.Meaning.{Meaning}
 use Rattle.route.specs.declared.stop.Stop.{Stop}
 use Rattle.route.specs.declared.stop.Facts.{Facts}
-use Rattle.route.specs.Calls.{blank, facts_of, facts_at, timed}
+use Rattle.route.specs.Calls.{blank, facts_of, facts_at, timed, all_facts, route_facts}
 use Rattle.route.proofs.Runnings.{facts_there, length_timed}
-use Rattle.report.specs.Routes.{all_facts, route_facts}
 
 all_facts_length : (ss : List Stop) (ts : List ℕ) → length ts ≡ length ss → length (all_facts ss ts) ≡ length ss
 all_facts_length [] ts h = refl

@@ -1,28 +1,17 @@
 -- The report of a route. Assumes nothing.
-use Rattle.std.specs.Prelude.{◌≡◌, ℕ, ◌≤◌, List, [], ◌∷◌, length, Result}
+use Rattle.std.specs.Prelude.{◌≡◌, ℕ, ◌≤◌, List, length, Result}
 use Rattle.cost.specs.Algebra.{Algebra}
 use Rattle.cost.specs.Texts.{laid}
 use Rattle.source.specs.Meaning.{Meaning}
 use Rattle.timing.specs.Best.{Best}
 use Rattle.route.specs.declared.stop.Stop.{Stop}
-use Rattle.route.specs.declared.stop.Facts.{Facts}
 use Rattle.route.specs.Table.{line}
-use Rattle.route.specs.Calls.{facts_of, timed}
+use Rattle.route.specs.Calls.{timed, route_facts}
 use Rattle.route.specs.Joins.{Least}
 use Rattle.report.specs.declared.refusal.ReportRefusal.{ReportRefusal}
 use Rattle.report.specs.Refusals.{answer}
 use Rattle.report.specs.Reports.{report_text}
 use Rattle.report.specs.Bounds.{longest_report}
-
--- what is told of the stops ss, served at the minutes ts
-abbrev pub all_facts : List Stop → List ℕ → List Facts
-all_facts [] ts = []
-all_facts (s ∷ ss) [] = []
-all_facts (s ∷ ss) (t ∷ ts) = facts_of s t ∷ all_facts ss ts
-
--- what is told of the stops ss of a route over a source of meaning m
-abbrev pub route_facts : {E : Type 0} → Algebra E → Meaning E → List Stop → List Facts
-route_facts K m ss = all_facts ss (timed K m ss)
 
 -- the report of the stops ss over a source of meaning m is written into a buffer that held the bytes entry and then holds exit
 pub record Reported {E : Type 0} (K : Algebra E) (text : E → List ℕ) (longest : ℕ) (m : Meaning E) (ss : List Stop) (entry exit : List ℕ) (r : Result ℕ ReportRefusal) : Type 0 where

@@ -1,6 +1,7 @@
 ghost use Rattle.std.specs.Prelude.{◌≡◌, ◌<◌, ◌≤◌, length, slice_index_or};
 ghost use Rattle.route.specs.declared.stop.Facts.{Facts as FactsOf};
-ghost use Rattle.report.specs.Routes.{route_facts, Reported};
+ghost use Rattle.route.specs.Calls.{route_facts};
+ghost use Rattle.report.specs.Routes.{Reported};
 
 use crate::refusal::ReportRefusal;
 use crate::report::write_report;

@@ -1,5 +1,6 @@
 pub mod Views
 pub mod Objections
+pub mod Legs
 pub mod Splices
 pub mod Alterations
 pub mod Remarks

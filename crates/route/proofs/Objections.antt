@@ -8,11 +8,11 @@ use Rattle.route.specs.Plain.{Plain}
 use Rattle.route.specs.Judged.{outside, objection}
 use Rattle.route.specs.Steps.{HasPlace}
 
-passed : (b : Bool) (n : ℕ) (o : Option ℕ) → cond b (Some n) o ≡ None → (b ≡ false) × (o ≡ None)
+pub passed : (b : Bool) (n : ℕ) (o : Option ℕ) → cond b (Some n) o ≡ None → (b ≡ false) × (o ≡ None)
 passed true n o e = absurd (let z : ◌≡◌ {A = ℕ} 0 1 = cc in omega arith)
 passed false n o e = (refl, e)
 
-both_false : (a b : Bool) → (a || b) ≡ false → (false ≡ a) × (false ≡ b)
+pub both_false : (a b : Bool) → (a || b) ≡ false → (false ≡ a) × (false ≡ b)
 both_false true b e = absurd (let z : ◌≡◌ {A = ℕ} 0 1 = cc in omega arith)
 both_false false b e = (refl, sym e)
 

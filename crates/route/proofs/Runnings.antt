@@ -1,6 +1,7 @@
 -- The steps of a whole run.
-use Rattle.std.proofs.Common.{◌≡◌, ℕ, suc, ◌+◌, ◌-◌, ◌<◌, ◌≤◌, Bool, false, cond, ◌||◌, ltb, List, [], ◌∷◌, ◌++◌, map, length, get_or, take, Ok, Err, sym, refl, ap, ◌∙◌, subst, arith, le-ltb}
-use Rattle.std.proofs.lemmas.List.{length-map, take_more, take_all, map_push, get_or-map}
+use Rattle.std.proofs.Common.{◌≡◌, ℕ, suc, ◌+◌, ◌-◌, ◌<◌, ◌≤◌, Bool, false, cond, ◌||◌, ltb, List, [], ◌∷◌, ◌++◌, map, length, get_or, Ok, Err, sym, refl, ap, ◌∙◌, subst, arith, le-ltb, drop, drop-cons}
+use Rattle.std.proofs.lemmas.List.{length-map}
+use Rattle.std.specs.List.{enumerate_from}
 use Rattle.cost.specs.Algebra.{Algebra}
 use Rattle.source.specs.Meaning.{Meaning}
 use Rattle.timing.specs.Visits.{Visit}
@@ -16,10 +17,10 @@ use Rattle.route.specs.declared.stop.Refusal.TheVariants.{Place}
 use Rattle.route.specs.Plain.{Plain, seen, visits}
 use Rattle.route.specs.Table.{plain, plains, mark, marks, line, Marked}
 use Rattle.route.specs.Judged.{Answer, Runs, outside}
-use Rattle.route.specs.Calls.{blank, facts_of, facts_at, timed, Spliced}
+use Rattle.route.specs.Calls.{blank, facts_of, facts_at, all_facts, route_facts, timed, Spliced}
 use Rattle.route.specs.Joins.{Least}
 use Rattle.route.specs.Guarantee.{told, told_mark, told_minute, Read}
-use Rattle.route.specs.Runs.{Told, Ran}
+use Rattle.route.specs.Runs.{Ran}
 use Rattle.route.proofs.Uniqueness.{runs_push, steady}
 
 -- the facts of one stop more
@@ -33,22 +34,33 @@ facts_there ss ts i h =
     ap (λ (x : Bool). cond x (Err Place) (Ok (facts_of (get_or ss (i + 1 - 1) blank) (get_or ts (i + 1 - 1) 0)))) e
     ∙ ap (λ (k : ℕ). Ok (facts_of (get_or ss k blank) (get_or ts k 0))) z
 
-abbrev pub TellsTo : List Stop → List ℕ → List Facts → ℕ → Type 0
-TellsTo ss ts fs i = (map told fs ≡ take i (plains ss)) × (map told_mark fs ≡ take i (marks ss)) × (map told_minute fs ≡ take i ts)
-
-pub tells_more : (ss : List Stop) (ts : List ℕ) (fs gs : List Facts) (z : Stop) (f : Facts) (i : ℕ) → i < length ss → i < length ts → f ≡ facts_of (get_or ss i z) (get_or ts i 0) → gs ≡ fs ++ f ∷ [] → TellsTo ss ts fs i → TellsTo ss ts gs (i + 1)
-tells_more ss ts fs gs z f i h k w g t =
-    let n = length-map ss plain in
-    let m = length-map ss mark in (
-      ap (map told) g ∙ map_push told fs f ∙ ap (λ (l : List Plain). l ++ told f ∷ []) t.0 ∙ ap (λ (x : Facts). take i (plains ss) ++ told x ∷ []) w ∙ ap (λ (x : Plain). take i (plains ss) ++ x ∷ []) (sym (get_or-map plain ss i z (plain z) h)) ∙ sym (take_more (plains ss) i (plain z) (omega arith)),
-      ap (map told_mark) g ∙ map_push told_mark fs f ∙ ap (λ (l : List ℕ). l ++ told_mark f ∷ []) t.1 ∙ ap (λ (x : Facts). take i (marks ss) ++ told_mark x ∷ []) w ∙ ap (λ (x : ℕ). take i (marks ss) ++ x ∷ []) (sym (get_or-map mark ss i z 0 h)) ∙ sym (take_more (marks ss) i 0 (omega arith)),
-      ap (map told_minute) g ∙ map_push told_minute fs f ∙ ap (λ (l : List ℕ). l ++ told_minute f ∷ []) t.2 ∙ ap (λ (x : Facts). take i ts ++ told_minute x ∷ []) w ∙ sym (take_more ts i 0 k),
-    )
+-- each stop of a list with its minute, taken by number
+numbered : (ss : List Stop) (ts : List ℕ) (n : ℕ) → length ss + n ≤ length ts → map (λ p. facts_of p.1 (get_or ts p.0 0)) (enumerate_from n ss) ≡ all_facts ss (drop n ts)
+numbered [] ts n h = refl
+numbered (s ∷ ss) ts n h =
+    let up : n + 1 ≡ suc n = omega arith in
+    ap (λ (l : List Facts). facts_of s (get_or ts n 0) ∷ l) (numbered ss ts (n + 1) (omega arith) ∙ ap (λ (k : ℕ). all_facts ss (drop k ts)) up)
+    ∙ ap (all_facts (s ∷ ss)) (sym (drop-cons ts n 0 (omega arith)))
 
 pub length_minutes : {E : Type 0} (vs : List (Visit E)) (ms : List ℕ) → length ms ≡ length vs → length (minutes vs ms) ≡ length vs
 length_minutes [] ms e = refl
 length_minutes (v ∷ vs) [] e = absurd (omega arith)
 length_minutes (v ∷ vs) (t ∷ ms) e = ap suc (length_minutes vs ms (omega arith))
+
+-- the facts fs are those of all stops of the table
+pub record Told {E : Type 0} (K : Algebra E) (m : Meaning E) (ss : List Stop) (fs : List Facts) : Type 0 where
+  pub stops : map told fs ≡ plains ss
+  pub marked : map told_mark fs ≡ marks ss
+  pub minutes : map told_minute fs ≡ timed K m ss
+
+facts_told : (ss : List Stop) (ts : List ℕ) → length ts ≡ length ss
+    → (map told (all_facts ss ts) ≡ plains ss) × (map told_mark (all_facts ss ts) ≡ marks ss) × (map told_minute (all_facts ss ts) ≡ ts)
+facts_told [] [] e = (refl, refl, refl)
+facts_told [] (t ∷ ts) e = absurd (omega arith)
+facts_told (s ∷ ss) [] e = absurd (omega arith)
+facts_told (s ∷ ss) (t ∷ ts) e =
+    let rest = facts_told ss ts (omega arith) in
+    (ap (λ (l : List Plain). plain s ∷ l) rest.0, ap (λ (l : List ℕ). s.mark ∷ l) rest.1, ap (λ (l : List ℕ). t ∷ l) rest.2)
 
 module _ {E : Type 0} (K : Algebra E) (m : Meaning E) (ss : List Stop) where
   pub length_timed : length (timed K m ss) ≡ length ss
@@ -58,16 +70,15 @@ module _ {E : Type 0} (K : Algebra E) (m : Meaning E) (ss : List Stop) where
       let c = length-map ss mark in
       length_minutes (line K m ss) (marks ss) (omega arith) ∙ a ∙ b
 
-  pub tells_all : (fs : List Facts) (i : ℕ) → length ss ≤ i → TellsTo ss (timed K m ss) fs i → Told K m ss fs
-  tells_all fs i h t =
-      let a = length-map ss plain in
-      let b = length-map ss mark in
-      let c = length_timed in
-      record {
-        stops = t.0 ∙ take_all i (plains ss) (omega arith);
-        marked = t.1 ∙ take_all i (marks ss) (omega arith);
-        minutes = t.2 ∙ take_all i (timed K m ss) (omega arith);
-      }
+  -- what the facts of all stops tell
+  pub all_told : Told K m ss (route_facts K m ss)
+  all_told =
+      let t = facts_told ss (timed K m ss) length_timed in
+      record { stops = t.0; marked = t.1; minutes = t.2 }
+
+  -- the same of the facts as a route reads them, each stop by its number
+  read_told : (fs : List Facts) → fs ≡ map (λ p. facts_of p.1 (get_or (timed K m ss) p.0 0)) (enumerate_from 0 ss) → Told K m ss fs
+  read_told fs e = subst (Told K m ss) (sym (e ∙ numbered ss (timed K m ss) 0 (omega (arith, length_timed)))) all_told
 
 -- one splice more
 
@@ -96,13 +107,13 @@ module _ {X E : Type 0} (K : Algebra E) (M : X → Meaning E) (x : X) where
       record { source = e; stops = st; read = read; steady = steady K m ss rs n fs c read }
 
   -- from an empty table, with the sources as the calls name them
-  pub ran_from : (z y : X) (ts us : List Stop) (ss : List Splice) (rs : List Answer) (n : ℕ) (fs : List Facts) (c : E) → z ≡ x → ts ≡ [] → y ≡ z → Runs K (M z) (plains ts) ss rs (plains us) → Told K (M y) us fs → n ≡ length (plains us) → Marked K (M y) us → Best K (line K (M y) us) (timed K (M y) us) → Least K (line K (M y) us) c → Ran K M x ss y us rs n fs c
+  pub ran_from : (z y : X) (ts us : List Stop) (ss : List Splice) (rs : List Answer) (n : ℕ) (fs : List Facts) (c : E) → z ≡ x → ts ≡ [] → y ≡ z → Runs K (M z) (plains ts) ss rs (plains us) → fs ≡ map (λ p. facts_of p.1 (get_or (timed K (M y) us) p.0 0)) (enumerate_from 0 us) → n ≡ length (plains us) → Marked K (M y) us → Best K (line K (M y) us) (timed K (M y) us) → Least K (line K (M y) us) c → Ran K M x ss y us rs n fs c
   ran_from z y ts us ss rs n fs c e f g runs t k right best least =
       let same : y ≡ x = g ∙ e in
       ran y us ss rs n fs c same
       (subst (λ (l : List Stop). Runs K (M x) (plains l) ss rs (plains us)) f (subst (λ (v : X). Runs K (M v) (plains ts) ss rs (plains us)) e runs))
       (subst (λ (v : X). Marked K (M v) us) same right)
-      (subst (λ (v : X). Told K (M v) us fs) same t)
+      (subst (λ (v : X). Told K (M v) us fs) same (read_told K (M y) us fs t))
       k
       (subst (λ (v : X). Best K (line K (M v) us) (timed K (M v) us)) same best)
       (subst (λ (v : X). Least K (line K (M v) us) c) same least)

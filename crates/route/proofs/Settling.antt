@@ -12,11 +12,12 @@ use Rattle.route.specs.declared.stop.Stop.{Stop}
 use Rattle.route.specs.declared.stop.Splice.{Splice}
 use Rattle.route.specs.declared.stop.Splice.TheVariants.{Insert, Remove, Change}
 use Rattle.route.specs.Plain.{Plain, place, spliced, seen, visits}
-use Rattle.route.specs.Table.{plain, plains, marks, line}
+use Rattle.route.specs.Table.{plain, plains, marks, line, Short}
 use Rattle.route.specs.Kept.{Kept}
 use Rattle.route.specs.Judged.{Answer, objection, Judged, refused, blocked, accepted}
 use Rattle.route.specs.Calls.{Altered, Refreshed, Spliced, remarked}
 use Rattle.route.proofs.Objections.{has_place}
+use Rattle.route.proofs.Legs.{short_spliced}
 use Rattle.route.proofs.Remarks.{plains_remarked, marks_remarked}
 use Rattle.route.proofs.Soundness.{lawful_sound}
 
@@ -98,4 +99,6 @@ module _ {E : Type 0} (K : Algebra E) (m : Meaning E) where
       }
 
   pub kept_on : (ss ts : List Stop) (s : Splice) → Lawful K m → length ts ≤ 64 → Kept K m ss → Spliced K m ss s (Ok tt) ts → Kept K m ts
-  kept_on ss ts s law few k x = record { few = few; lawful = law; marked = x.marked k.marked }
+  kept_on ss ts s law few k x =
+      let ok = judged_ok (plains ss) (plains ts) s (Ok tt) x.judged in
+      record { few = few; lawful = law; marked = x.marked k.marked; legs = subst Short (sym ok.2) (short_spliced m (plains ss) s ok.0 k.legs) }

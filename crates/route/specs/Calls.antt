@@ -62,3 +62,13 @@ facts_at ss ts p = cond (outside p (length ss)) (Err Place) (Ok (facts_of (slice
 -- the minutes that the marks in the table give
 abbrev pub timed : {E : Type 0} → Algebra E → Meaning E → List Stop → List ℕ
 timed K m ss = minutes (line K m ss) (marks ss)
+
+-- what is told of the stops ss, served at the minutes ts
+abbrev pub all_facts : List Stop → List ℕ → List Facts
+all_facts [] ts = []
+all_facts (s ∷ ss) [] = []
+all_facts (s ∷ ss) (t ∷ ts) = facts_of s t ∷ all_facts ss ts
+
+-- what is told of the stops ss of a route over a source of meaning m
+abbrev pub route_facts : {E : Type 0} → Algebra E → Meaning E → List Stop → List Facts
+route_facts K m ss = all_facts ss (timed K m ss)

@@ -5,16 +5,9 @@ use Rattle.source.specs.Meaning.{Meaning}
 use Rattle.route.specs.declared.stop.Stop.{Stop}
 use Rattle.route.specs.declared.stop.Facts.{Facts}
 use Rattle.route.specs.declared.stop.Splice.{Splice}
-use Rattle.route.specs.Table.{plains, marks}
+use Rattle.route.specs.Table.{plains}
 use Rattle.route.specs.Judged.{Answer}
-use Rattle.route.specs.Calls.{timed}
-use Rattle.route.specs.Guarantee.{told, told_mark, told_minute, Read, Steady}
-
--- the facts fs are those of all stops of the table
-pub record Told {E : Type 0} (K : Algebra E) (m : Meaning E) (ss : List Stop) (fs : List Facts) : Type 0 where
-  pub stops : map told fs ≡ plains ss
-  pub marked : map told_mark fs ≡ marks ss
-  pub minutes : map told_minute fs ≡ timed K m ss
+use Rattle.route.specs.Guarantee.{told, Read, Steady}
 
 -- a route opened over the source x of meaning M x, spliced and read; it keeps the source y and the stops us
 pub record Ran {X E : Type 0} (K : Algebra E) (M : X → Meaning E) (x : X) (ss : List Splice) (y : X) (us : List Stop) (rs : List Answer) (n : ℕ) (fs : List Facts) (c : E) : Type 0 where

@@ -1,5 +1,5 @@
 -- The stop table that the engine keeps, and what it owes. Assumes nothing.
-use Rattle.std.specs.Prelude.{ℕ, List, map}
+use Rattle.std.specs.Prelude.{ℕ, ◌≤◌, ⊤, List, [], ◌∷◌, map}
 use Rattle.cost.specs.Algebra.{Algebra}
 use Rattle.source.specs.Meaning.{Meaning}
 use Rattle.timing.specs.Visits.{Visit}
@@ -23,6 +23,11 @@ marks ss = map mark ss
 -- the stops of the table as the timing sees them
 abbrev pub line : {E : Type 0} → Algebra E → Meaning E → List Stop → List (Visit E)
 line K m ss = visits K m (plains ss)
+
+-- no stop has a leg of more than 600 minutes
+abbrev pub Short : List Plain → Type 0
+Short [] = ⊤
+Short (p ∷ ps) = (p.leg ≤ 600) × Short ps
 
 -- every mark in the table is the one that the definition of a mark gives
 abbrev pub Marked : {E : Type 0} → Algebra E → Meaning E → List Stop → Type 0

@@ -5,7 +5,7 @@ use crate::stop::{Facts, Refusal};
 #[derive(Drop)]
 pub struct Card<K> {
     pub answers: Vec<Result<(), Refusal>>,
-    // Kept beside the facts: it is read by a call of its own, and the guarantee compares the two.
+    // Kept: beside the facts, since it is read by a call of its own, and the guarantee compares the two.
     pub count: usize,
     pub facts: Vec<Facts>,
     pub least: K,

@@ -31,7 +31,7 @@ impl JoinAt {
         requires { back ≤ 64 }
         ensures { refused_by result ≡ objection_to_join front self.i self.leg back self.j }
     {
-        Refusal::Place.refuse_if((front < self.i) | is_outside(self.j, back + 1))?;
+        Refusal::Place.refuse_if(front < self.i || is_outside(self.j, back + 1))?;
         Refusal::Leg.refuse_if(is_long(self.leg))
     }
 
@@ -86,7 +86,8 @@ fn least_of<L: Line>(line: &L) -> L::Kind
 
 // The least cost of the first i stops of one route followed by the other's from place j on, the first of these by
 // another leg. Both routes stay.
-// Kept: the numbers one by one, since the subject's rules name them so; inside they go as one `JoinAt`.
+// Kept: the numbers one by one, since one value for them would be no plainer: each stands beside the route that it
+// counts in, so that `join(&a, i, leg, &b, j)` reads in the order of the joined stops; inside they go as one `JoinAt`.
 #[tactic(auto, using(crate::proofs::Joinings::join_refused, crate::proofs::Joinings::join_blocked, crate::proofs::Joinings::join_accepted))]
 pub fn join<'a, A: Source, B: Source<Exact = A::Exact, Kind = A::Kind>>(
     a: &'a Route<A>,

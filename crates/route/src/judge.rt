@@ -18,7 +18,7 @@ use timing::reach::first_blocked;
 pub(crate) fn is_outside(place: usize, n: usize) -> bool
     ensures { result ≡ outside place n }
 {
-    (place < 1) | (n < place)
+    !(1..=n).contains(&place)
 }
 
 pub(crate) fn is_long(leg: u16) -> bool
@@ -60,7 +60,7 @@ impl<S: Source> Route<S> {
                 Refusal::Place.refuse_if(is_outside(place, n + 1))?;
                 Refusal::Full.refuse_if(MOST_STOPS <= n)?;
                 Refusal::Curve.refuse_if(is_closed(&self.source, curve))?;
-                Refusal::Leg.refuse_if(is_long(leg_in) | is_long(leg_out))
+                Refusal::Leg.refuse_if(is_long(leg_in) || is_long(leg_out))
             }
             Splice::Remove { place, leg } => {
                 Refusal::Place.refuse_if(is_outside(place, n))?;

@@ -33,7 +33,8 @@ impl<S: Source> Line for Draft<'_, S> {
     }
 }
 
-// Kept: three alike methods, since the two parts have different types and no one reference can stand for either.
+// Kept: three short alike methods: a reference to either part would have to be a `dyn`, which may not be handed out, so
+// any form in their place would be longer.
 impl<A: Source, B: Source<Exact = A::Exact, Kind = A::Kind>> Line for Joined<'_, A, B> {
     type Exact = A::Exact;
 

@@ -1,10 +1,10 @@
-ghost use Rattle.std.specs.Prelude.{◌≡◌, IfOk, slice_index};
+ghost use Rattle.std.specs.Prelude.{◌≡◌, IfOk, slice_index, map};
+ghost use Rattle.std.specs.List.{enumerate_from};
 ghost use Rattle.timing.specs.Best.{Best};
 ghost use Rattle.route.specs.Table.{plains, line};
 ghost use Rattle.route.specs.Kept.{Kept};
 ghost use Rattle.route.specs.Calls.{timed, facts_of, facts_at};
 ghost use Rattle.route.specs.Joins.{Least};
-ghost use Rattle.route.specs.Runs.{Told};
 
 use crate::draft::Draft;
 use crate::judge::is_outside;
@@ -48,9 +48,10 @@ impl<S: Source> Route<S> {
         }
     }
 
-    // What is told of the stop at a place.
+    // What is told of the stop at a place; its minute is that of the best timetable.
     pub fn facts(&self, place: usize) -> Result<Facts, Refusal>
-        ensures { result ≡ facts_at self.now.stops (timed S.Kind.Cost.algebra (S.Source.meaning self.now.source) self.now.stops) place }
+        ensures told { result ≡ facts_at self.now.stops (timed S.Kind.Cost.algebra (S.Source.meaning self.now.source) self.now.stops) place }
+        ensures best { Best S.Kind.Cost.algebra (line S.Kind.Cost.algebra (S.Source.meaning self.now.source) self.now.stops) (timed S.Kind.Cost.algebra (S.Source.meaning self.now.source) self.now.stops) }
     {
         let stops = self.stops.as_slice();
         Refusal::Place.refuse_if(is_outside(place, stops.len()))?;
@@ -62,20 +63,20 @@ impl<S: Source> Route<S> {
     // The facts of all stops, in order.
     // Kept: a report reads them into an array that is lent to it, since it wants no memory; here they are as many as
     // the stops.
-    #[tactic(auto, using(crate::proofs::Runnings::tells_all))]
     pub(crate) fn all_facts(&self, heap: Global) -> Result<Vec<Facts>, AllocError>
-        ensures { IfOk result (λ facts. Told S.Kind.Cost.algebra (S.Source.meaning self.now.source) self.now.stops facts.items) }
+        ensures { IfOk result (λ facts. facts.items ≡ map (λ p. facts_of p.1 (slice_index (timed S.Kind.Cost.algebra (S.Source.meaning self.now.source) self.now.stops) p.0)) (enumerate_from 0 self.now.stops)) }
     {
-        let mut all = Vec::new(heap);
-        for (i, stop) in self.stops.as_slice().iter().enumerate() {
-            all.push(self.told(i, *stop))?;
-        }
-        Ok(all)
+        self.stops
+            .as_slice()
+            .iter()
+            .enumerate()
+            .map(|(i, stop)| self.told(i, *stop))
+            .collect(heap)
     }
 
     // The least cost of all timetables of the route: that of the timetable which the facts tell. With it comes what
     // every route keeps.
-    #[tactic(auto, using(crate::proofs::Readings::marked_best, crate::proofs::Readings::loaded_least, crate::proofs::Splices::same_line))]
+    #[tactic(auto, using(crate::proofs::Readings::kept_best, crate::proofs::Readings::loaded_least, crate::proofs::Splices::same_line))]
     pub fn least_cost(&self) -> S::Kind
         ensures kept { Kept S.Kind.Cost.algebra (S.Source.meaning self.now.source) self.now.stops }
         ensures best { Best S.Kind.Cost.algebra (line S.Kind.Cost.algebra (S.Source.meaning self.now.source) self.now.stops) (timed S.Kind.Cost.algebra (S.Source.meaning self.now.source) self.now.stops) }

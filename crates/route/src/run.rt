@@ -51,7 +51,8 @@ fn run_one<S: Source + Drop>(
 
 // Opens two empty routes, each over its own source, makes the splices on each, reads all that can be read of both, and
 // joins them. The whole guarantee stands here, with no premise.
-// Kept: the numbers of the join one by one, as in `join`.
+// Kept: the numbers of the join one by one, in the order of `join`, to which they are handed on; a value for them would
+// be taken apart here and be no plainer.
 pub fn whole_run<A: Source + Drop, B: Source<Exact = A::Exact, Kind = A::Kind> + Drop>(
     heap: Global,
     first: A,

@@ -70,7 +70,7 @@ impl StopTable {
         ensures { Altered self.old (Insert place stop.curve stop.leg leg_out) self.new }
     {
         self.set_leg(place - 1, leg_out);
-        let _ = self.stops.insert(place - 1, stop);
+        self.stops.insert(place - 1, stop).unwrap();
     }
 
     // Takes the stop at a place out; the next one is then reached by `leg`.
@@ -79,7 +79,7 @@ impl StopTable {
         ensures { Altered self.old (Remove place leg) self.new }
     {
         self.set_leg(place, leg);
-        let _ = self.stops.remove(place - 1);
+        self.stops.remove(place - 1);
     }
 
     // Puts another curve number on the stop at a place.
@@ -87,7 +87,8 @@ impl StopTable {
         requires { HasPlace (length self.old) (Change place curve) }
         ensures { Altered self.old (Change place curve) self.new }
     {
-        // Kept: a record of the inner table is lent and altered, so that its leg and its mark stay as they are.
+        // Kept: a record of the inner table is lent to be altered, as the rules of the subject's code ask; nothing else
+        // of it changes.
         let stop = &mut self.stops[place - 1];
         stop.curve = curve;
     }
@@ -116,7 +117,8 @@ impl StopTable {
         ensures room { length result ≡ 64 }
     {
         let mut marks = [0; MOST_STOPS];
-        // Kept: by number, since of what a `zip` over `iter_mut` writes a proof knows nothing (tried).
+        // Kept: by number, since of what a `zip` over `iter_mut` writes a proof knows nothing, and from what `from_fn`
+        // tells of its calls the proof did not close (both tried).
         for (i, stop) in self.stops.iter().enumerate() {
             marks[i] = stop.mark;
         }

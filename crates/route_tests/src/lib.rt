@@ -7,7 +7,6 @@ mod tests {
     use cost::amount::Amount;
     use route::join::join;
     use route::run::whole_run;
-    use route::splice;
     use route::stop::{Facts, Refusal, Splice};
     use route::table::Route;
     use source::due::{DueBook, DueRow};
@@ -79,10 +78,6 @@ mod tests {
         },
     ];
 
-    fn book(heap: Global, rows: &[DueRow]) -> Result<DueBook, AllocError> {
-        Ok(DueBook::new(rows.to_vec(heap)?))
-    }
-
     fn facts(curve: u8, leg: u16, mark: u16, minute: u16) -> Facts {
         Facts {
             curve,
@@ -110,7 +105,7 @@ mod tests {
     // An empty route, then one stop, two, three, and two again.
     #[test]
     fn splices_one_by_one(rt: HostRuntime) -> Result<(), Fail> {
-        let mut route = Route::open(rt.alloc(), book(rt.alloc(), &ROWS)?)?;
+        let mut route = Route::open(rt.alloc(), DueBook::of_rows(rt.alloc(), &ROWS)?)?;
         reads(&rt, &route, &[], 0)?;
         route.insert(1, 0, 0, 0)?;
         reads(&rt, &route, &[facts(0, 0, 600, 600)], 0)?;
@@ -140,7 +135,7 @@ mod tests {
     // A leg of 20 minutes just fits between two windows, one of 21 does not.
     #[test]
     fn leg_too_long(rt: HostRuntime) -> Result<(), Fail> {
-        let mut route = Route::open(rt.alloc(), book(rt.alloc(), &ROWS)?)?;
+        let mut route = Route::open(rt.alloc(), DueBook::of_rows(rt.alloc(), &ROWS)?)?;
         route.insert(1, 2, 0, 0)?;
         assert_eq!(rt;
             route.insert(2, 2, 21, 0),
@@ -159,7 +154,7 @@ mod tests {
     // By money the second stop comes late.
     #[test]
     fn by_money(rt: HostRuntime) -> Result<(), Fail> {
-        let mut money = Route::open(rt.alloc(), book(rt.alloc(), &ROWS)?)?;
+        let mut money = Route::open(rt.alloc(), DueBook::of_rows(rt.alloc(), &ROWS)?)?;
         money.insert(1, 3, 0, 0)?;
         money.insert(2, 1, 10, 0)?;
         reads(
@@ -174,8 +169,8 @@ mod tests {
     #[test]
     fn money_and_promise(rt: HostRuntime) -> Result<(), Fail> {
         let both = Pairing {
-            first: book(rt.alloc(), &LATE)?,
-            second: book(rt.alloc(), &ROWS)?,
+            first: DueBook::of_rows(rt.alloc(), &LATE)?,
+            second: DueBook::of_rows(rt.alloc(), &ROWS)?,
         };
         let mut promise = Route::open(rt.alloc(), both)?;
         promise.insert(1, 3, 0, 0)?;
@@ -210,8 +205,8 @@ mod tests {
             leg_out: 6,
         };
         let fewer = Splice::Remove { place: 2, leg: 20 };
-        let first = book(rt.alloc(), &ROWS)?;
-        let second = book(rt.alloc(), &ROWS)?;
+        let first = DueBook::of_rows(rt.alloc(), &ROWS)?;
+        let second = DueBook::of_rows(rt.alloc(), &ROWS)?;
         let outcome = whole_run(
             rt.alloc(),
             first,
@@ -231,7 +226,7 @@ mod tests {
 
     // Two stops: curve 0, then curve 1 by a leg of 10 minutes.
     fn two_stops(heap: Global) -> Result<Route<DueBook>, Fail> {
-        let mut route = Route::open(heap, book(heap, &ROWS)?)?;
+        let mut route = Route::open(heap, DueBook::of_rows(heap, &ROWS)?)?;
         route.insert(1, 0, 0, 0)?;
         route.insert(2, 1, 10, 0)?;
         Ok(route)
@@ -279,7 +274,7 @@ mod tests {
     // A route of 64 stops takes no other one, whatever its curve and its legs.
     #[test]
     fn full(rt: HostRuntime) -> Result<(), Fail> {
-        let mut route = Route::open(rt.alloc(), book(rt.alloc(), &ROWS)?)?;
+        let mut route = Route::open(rt.alloc(), DueBook::of_rows(rt.alloc(), &ROWS)?)?;
         for _ in 0..64 {
             route.insert(1, 0, 0, 0)?;
         }
@@ -304,7 +299,7 @@ mod tests {
     #[test]
     fn joins_refused(rt: HostRuntime) -> Result<(), Fail> {
         let a = two_stops(rt.alloc())?;
-        let mut b = Route::open(rt.alloc(), book(rt.alloc(), &ROWS)?)?;
+        let mut b = Route::open(rt.alloc(), DueBook::of_rows(rt.alloc(), &ROWS)?)?;
         b.insert(1, 2, 0, 0)?;
         assert_eq!(rt; joins(&a, 3, 601, &b, 1), Err(Refusal::Place));
         assert_eq!(rt; joins(&a, 2, 601, &b, 0), Err(Refusal::Place));
@@ -344,7 +339,7 @@ mod tests {
             late: 2,
         };
         let both = Pairing {
-            first: book(rt.alloc(), &[due])?,
+            first: DueBook::of_rows(rt.alloc(), &[due])?,
             second: bends(rt.alloc())?,
         };
         let mut route = Route::open(rt.alloc(), Weight::new(both, [2; 64]))?;

@@ -1,42 +1,25 @@
 -- What is read of a route after the calls of a strip. Assumes nothing.
-use Rattle.std.proofs.Common.{◌≡◌, ℕ, List, [], ◌∷◌, map, length, Result, sym, refl, ap, ◌∙◌, subst, arith}
+use Rattle.std.proofs.Common.{◌≡◌, ℕ, List, [], length, Result, sym, refl, ap, ◌∙◌, subst}
 use Rattle.std.proofs.lemmas.List.{length-map}
 use Rattle.cost.specs.Algebra.{Algebra}
 use Rattle.source.specs.Meaning.{Meaning}
 use Rattle.route.specs.declared.stop.Stop.{Stop}
-use Rattle.route.specs.Plain.{Plain}
-use Rattle.route.specs.Table.{plain, plains, marks, Marked}
-use Rattle.route.specs.Calls.{timed}
-use Rattle.route.specs.Guarantee.{told, told_mark, told_minute}
-use Rattle.route.specs.Runs.{Told}
+use Rattle.route.specs.Table.{plains, Marked}
+use Rattle.route.specs.Calls.{route_facts}
+use Rattle.route.specs.Guarantee.{told}
 use Rattle.route.proofs.Joinings.{no_marks}
-use Rattle.route.proofs.Runnings.{length_timed, ran}
-use Rattle.report.specs.Routes.{all_facts, route_facts}
+use Rattle.route.proofs.Runnings.{all_told, ran}
 use Rattle.reader.specs.declared.faults.Fault.{Fault}
 use Rattle.reader.specs.CallLaws.{answers_in, RunsExactly}
 use Rattle.reader.specs.Running.{begin, Calls}
 use Rattle.reader.specs.Ran.{Ran}
 use Rattle.strip_report.specs.Shown.{ReportOf, Shows}
 
-facts_told : (ss : List Stop) (ts : List ℕ) → length ts ≡ length ss
-    → (map told (all_facts ss ts) ≡ plains ss) × (map told_mark (all_facts ss ts) ≡ marks ss) × (map told_minute (all_facts ss ts) ≡ ts)
-facts_told [] [] e = (refl, refl, refl)
-facts_told [] (t ∷ ts) e = absurd (omega arith)
-facts_told (s ∷ ss) [] e = absurd (omega arith)
-facts_told (s ∷ ss) (t ∷ ts) e =
-    let rest = facts_told ss ts (omega arith) in
-    (ap (λ (l : List Plain). plain s ∷ l) rest.0, ap (λ (l : List ℕ). s.mark ∷ l) rest.1, ap (λ (l : List ℕ). t ∷ l) rest.2)
-
 module _ {X E : Type 0} (K : Algebra E) (text : E → List ℕ) (M : X → Meaning E) (x : X) (strip : List ℕ) (from : ℕ) where
-  all_told : (us : List Stop) → Told K (M x) us (route_facts K (M x) us)
-  all_told us =
-      let t = facts_told us (timed K (M x) us) (length_timed K (M x) us) in
-      record { stops = t.0; marked = t.1; minutes = t.2 }
-
   at_end : (us : List Stop) (r : Result ℕ Fault) (report : List ℕ) → Ran K (M x) strip from [] r us → ReportOf K text (M x) us report → Shows K text M x strip from r report x us
   at_end us r report done made =
       let fs = route_facts K (M x) us in
-      let t = all_told us in
+      let t = all_told K (M x) us in
       let st = sym t.stops in
       let right : Marked K (M x) us = done.marked (no_marks K) in
       let n : length fs ≡ length (plains us) = sym (length-map fs told) ∙ ap length t.stops in

@@ -7,11 +7,10 @@ use Rattle.route.specs.declared.stop.Stop.{Stop}
 use Rattle.route.specs.declared.stop.Facts.{Facts}
 use Rattle.route.specs.declared.stop.Splice.{Splice}
 use Rattle.route.specs.Table.{plains, line}
-use Rattle.route.specs.Calls.{timed}
+use Rattle.route.specs.Calls.{timed, route_facts}
 use Rattle.route.specs.Joins.{Least}
 use Rattle.route.specs.Guarantee.{told, Read, Steady}
 use Rattle.report.specs.Reports.{report_text}
-use Rattle.report.specs.Routes.{route_facts}
 use Rattle.reader.specs.declared.faults.Fault.{Fault}
 use Rattle.reader.specs.Running.{begin, Calls}
 use Rattle.reader.specs.CallLaws.{answers_in, RunsExactly}

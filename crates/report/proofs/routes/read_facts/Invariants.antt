@@ -1,5 +1,5 @@
 use Rattle.std.proofs.Common.{◌≡◌, take}
-use Rattle.report.specs.Routes.{route_facts}
+use Rattle.route.specs.Calls.{route_facts}
 use Rattle.report.proofs.routes.read_facts.Given as goal
 
 -- the entries hold the facts so far

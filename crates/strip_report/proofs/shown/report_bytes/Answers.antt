@@ -1,6 +1,6 @@
 use Rattle.std.proofs.Common.{◌≤◌, length, sym, ◌∙◌, refl, arith}
 use Rattle.report.specs.Reports.{report_text}
-use Rattle.report.specs.Routes.{route_facts}
+use Rattle.route.specs.Calls.{route_facts}
 use Rattle.strip_report.proofs.Laid.{answered, front_lent, front_read, unanswered}
 use Rattle.strip_report.proofs.shown.report_bytes.Goals as goal
 
