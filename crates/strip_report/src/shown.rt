@@ -33,10 +33,8 @@ where
     ensures { IfOk result (λ v. ReportOf S.Kind.Cost.algebra S.Kind.Written.text (S.Source.meaning route.now.source) route.now.stops v.items) }
 {
     let mut text = vec![in heap; 0; LONGEST]?;
-    match report(route, text.as_mut_slice()) {
-        Ok(length) => text.truncate(length),
-        Err(_) => unreachable(),
-    }
+    let length = report(route, text.as_mut_slice()).unwrap();
+    text.truncate(length);
     Ok(text)
 }
 
