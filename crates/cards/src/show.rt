@@ -25,7 +25,7 @@ pub fn show_card(
 
 // The last line of a card by money, which is the least cost or why there is none.
 fn money_line(heap: Global, least: Result<Amount, Refusal>) -> Result<String, AllocError> {
-    joined_line(heap, REFUSED, least.map(|least| least.units()))
+    joined_line(heap, REFUSED, least.map(Amount::units))
 }
 
 // A card by money.

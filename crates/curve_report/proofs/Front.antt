@@ -4,10 +4,9 @@ use Rattle.std.specs.Prelude.{String}
 use Rattle.std.proofs.lemmas.Result.{IfOk-weaker}
 use Rattle.source.specs.declared.due.DueRow.{DueRow}
 use Rattle.reader.specs.declared.faults.Fault.{Fault}
-use Rattle.reader.specs.declared.rows.RowsRead.{RowsRead}
 use Rattle.reader.specs.FaultLine.{fault_line}
 use Rattle.reader.specs.Reading.{rows_answer, strip_answer}
-use Rattle.reader.proofs.Fronts.{front}
+use Rattle.reader.proofs.Fronts.{front, alone_by}
 use Rattle.curve_report.specs.Lines.{EachOpen, RowsText}
 use Rattle.curve_report.specs.Printed.{PrintedBy, PrintsOnly}
 use Rattle.curve_report.proofs.Open.{each_open}
@@ -29,13 +28,10 @@ open_rows strip rows lent calls held same =
 by_lines : (strip : List ℕ) (rows : List DueRow) (calls : ℕ) (text : List ℕ) → strip_answer strip ≡ Ok (rows, calls) → RowsText rows (length rows) text → PrintsOnly strip text
 by_lines strip rows calls text read lines =
     let (got, answer, place, at_front) = front strip rows calls read in
-    record {
-      printed = subst (λ (r : Result RowsRead Fault). PrintedBy strip r text) answer (rows, at_front.holds, lines);
-      only = λ other p.
-          let (held, holds, theirs) = subst (λ (r : Result RowsRead Fault). PrintedBy strip r other) (sym answer) p in
-          let same : held ≡ rows = at_front.alone held holds in
-          same_text rows (length rows) other text (subst (λ (l : List DueRow). RowsText l (length l) other) same theirs) lines;
-    }
+    let one : (t : List ℕ) → PrintedBy strip (Ok got) t → t ≡ text = λ t (held, holds, theirs).
+    same_text rows (length rows) t text (subst (λ (l : List DueRow). RowsText l (length l) t) (at_front.alone held holds) theirs) lines in
+    let by = alone_by (PrintedBy strip) (Ok got) (rows_answer strip 64) text answer (rows, at_front.holds, lines) one in
+    record { printed = by.0; only = by.1 }
 
 -- the rows' text, where it was made
 pub printed_rows : {A E : Type 0} (made : Result (String A) E) (strip : List ℕ) (rows lent : List DueRow) (calls : ℕ) → strip_answer strip ≡ Ok (rows, calls) → lent ≡ rows
@@ -46,8 +42,5 @@ printed_rows made strip rows lent calls read same =
 
 pub printed_fault : (strip : List ℕ) (f : Fault) (text : List ℕ) → rows_answer strip 64 ≡ Err f → text ≡ fault_line f → PrintsOnly strip text
 printed_fault strip f text read is =
-    let answer : Err f ≡ rows_answer strip 64 = sym read in
-    record {
-      printed = subst (λ (r : Result RowsRead Fault). PrintedBy strip r text) answer is;
-      only = λ other p. subst (λ (r : Result RowsRead Fault). PrintedBy strip r other) (sym answer) p ∙ sym is;
-    }
+    let by = alone_by (PrintedBy strip) (Err f) (rows_answer strip 64) text (sym read) is (λ t p. p ∙ sym is) in
+    record { printed = by.0; only = by.1 }

@@ -43,12 +43,8 @@ pub(crate) fn curve_line(heap: Global, book: &DueBook, curve: u8) -> Result<Stri
     requires { IsOpen book.now.rows.items curve }
     ensures { IfOk result (λ s. CurveLine book.now.rows.items curve (string_bytes s)) }
 {
-    let Some((first, last)) = book.window(curve) else {
-        unreachable()
-    };
-    let Some((minute, price)) = cheapest(book, curve) else {
-        unreachable()
-    };
+    let (first, last) = book.window(curve).unwrap();
+    let (minute, price) = cheapest(book, curve).unwrap();
     let facts = CurveFacts {
         curve,
         first,

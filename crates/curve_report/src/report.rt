@@ -1,5 +1,5 @@
-ghost use Rattle.std.specs.Prelude.{ℕ, ◌<◌, ◌≤◌, length, IfOk, string_bytes, OnOk};
-ghost use Rattle.curve_report.specs.Lines.{Grown, CurveLines, IsOpen, EachOpen, RowsText};
+ghost use Rattle.std.specs.Prelude.{ℕ, ◌<◌, ◌≤◌, length, IfOk, string_bytes};
+ghost use Rattle.curve_report.specs.Lines.{CurveLines, IsOpen, EachOpen, RowsText};
 ghost use Rattle.curve_report.specs.Printed.{PrintsOnly};
 
 use crate::lines::{curve_line, rows_line};
@@ -8,23 +8,16 @@ use reader::strip::Strip;
 use source::due::{DueBook, DueRow};
 use std::alloc::{AllocError, Global};
 
-// Adds the line of an open curve.
-fn add_curve(heap: Global, book: &DueBook, curve: u8, text: &mut String) -> Result<(), AllocError>
-    requires { IsOpen book.now.rows.items curve }
-    ensures { OnOk result (Grown book.now.rows.items curve (string_bytes text.old) (string_bytes text.new)) }
-{
-    let line = curve_line(heap, book, curve)?;
-    text.push_str(line.as_str())
-}
-
 // The lines of a book's first so many curves.
+#[tactic(auto, using(crate::proofs::Open::one_more))]
 fn curve_lines(heap: Global, book: &DueBook, count: u8) -> Result<String, AllocError>
     requires { (k : ℕ) → k < count → IsOpen book.now.rows.items k }
     ensures { IfOk result (λ s. CurveLines book.now.rows.items count (string_bytes s)) }
 {
     let mut text = String::new(heap);
     for curve in 0..count {
-        add_curve(heap, book, curve, &mut text)?;
+        let line = curve_line(heap, book, curve)?;
+        text.push_str(line.as_str())?;
     }
     Ok(text)
 }

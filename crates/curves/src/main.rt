@@ -2,13 +2,11 @@
 #![tactic(auto)]
 
 use curve_report::report::curves_text;
-use reader::input::{ENOUGH, read_strip};
+use reader::input::read_whole;
 use std::io;
 
 fn main(rt: HostRuntime) -> io::Result<()> {
-    // Kept: a buffer of its own, which `read_strip` fills without the heap.
-    let mut buffer = [0; ENOUGH];
-    let len = read_strip(&mut rt.stdin(), &mut buffer)?;
-    let text = curves_text(rt.alloc(), &buffer[0..len])?;
+    let strip = read_whole(rt.alloc(), rt.stdin())?;
+    let text = curves_text(rt.alloc(), strip.as_slice())?;
     print!(rt; "{text}")
 }

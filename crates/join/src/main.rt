@@ -1,7 +1,7 @@
 // Joins two half routes that are filed as strips: prints the report of each, and the least cost of the joined route.
 #![tactic(auto)]
 
-use anyhow::{Result, bail};
+use anyhow::{Result, anyhow, bail};
 use reader::input::read_whole;
 use std::fs::File;
 use std::io::Write;
@@ -16,10 +16,7 @@ fn read_file(rt: &HostRuntime, path: &str) -> io::Result<Vec<u8>> {
 
 // The bytes of a strip file; what is wrong is told with the file's name.
 fn read_strip(rt: &HostRuntime, path: &str) -> Result<Vec<u8>> {
-    match read_file(rt, path) {
-        Ok(strip) => Ok(strip),
-        Err(error) => bail!("{path}: {error}"),
-    }
+    read_file(rt, path).map_err(|error| anyhow!("{path}: {error}"))
 }
 
 // A leg past 16 bits is too long however long it is.

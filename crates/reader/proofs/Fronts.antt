@@ -25,3 +25,8 @@ front bytes rows calls e =
     let (got, read, place) = read_by bytes rows calls (rows_answer bytes 64) e in
     let holds = subst (λ (n : ℕ). Holds bytes rows n) (sym place) (answer_holds bytes rows calls e) in
     (got, read, place, record { holds = holds; alone = λ held h. (holds_one bytes rows held got.calls got.calls holds h).0 })
+
+-- what is so of one text alone, by what reading the rows answered
+pub alone_by : (P : Result RowsRead Fault → List ℕ → Type 0) (r answer : Result RowsRead Fault) (text : List ℕ) → r ≡ answer → P r text → ((t : List ℕ) → P r t → t ≡ text)
+    → P answer text × ((t : List ℕ) → P answer t → t ≡ text)
+alone_by P r answer text e is only = subst (λ (v : Result RowsRead Fault). P v text × ((t : List ℕ) → P v t → t ≡ text)) e (is, only)

@@ -72,6 +72,11 @@ module _ {E : Type 0} (K : Algebra E) (m : Meaning E) (bytes : List ℕ) (here :
           stays = λ bad. cc (ap (λ (y : Result Progress Fault). is_err y) e);
         }
 
+-- a turn's call, over the source that running began with
+pub over_first : {X E : Type 0} {K : Algebra E} (M : X → Meaning E) {x y : X} {bytes : List ℕ} {here : Progress} {ss : List Stop} {r : Result Progress Fault} {ts : List Stop} → y ≡ x
+    → CallRan K (M y) bytes here ss r ts → CallRan K (M x) bytes here ss r ts
+over_first M same call = rw (sym same) call
+
 -- what holds before each turn: how running ends from here on is how it ends from the byte where it began
 pub record Onward {E : Type 0} (K : Algebra E) (m : Meaning E) (bytes : List ℕ) (at : ℕ) (before : List Stop) (here : Progress) (now : List Stop) : Type 0 where
   pub goes : (r : Result ℕ Fault) (qs : List Plain) → Calls K m bytes here (plains now) r qs → Calls K m bytes (begin at) (plains before) r qs

@@ -1,8 +1,9 @@
-ghost use Rattle.std.specs.Prelude.{◌≡◌, ◌≤◌};
+ghost use Rattle.std.specs.Prelude.{◌≡◌, ◌≤◌, ok_or};
+ghost use Rattle.reader.specs.declared.faults.Cause.TheVariants.{CallMap};
 ghost use Rattle.reader.specs.CallRecords.{form_of, absent_place, splice_of, call_at};
 
 use crate::faults::Cause;
-use crate::record::{Record, is_set};
+use crate::record::{Record, has_known_bits, is_set};
 use route::stop::Splice;
 
 // The bits of a call's map. A field follows for each but the last, which says that a stop is taken out.
@@ -26,13 +27,15 @@ pub(crate) enum Form {
     Changing,
 }
 
-impl Form {
-    // The form that a map stands for, if any.
-    fn of(map: u8) -> Option<Form>
-        ensures { result ≡ form_of map }
-    {
-        if map / 32 != 0 {
-            return None;
+// The form that a map stands for, if any.
+impl TryFrom<u8> for Form {
+    type Error = Cause;
+
+    ghost try_from_gives = { λ map form. form ≡ ok_or (form_of map) CallMap };
+
+    fn try_from(map: u8) -> Result<Form, Cause> {
+        if !has_known_bits(map) {
+            return Err(Cause::CallMap);
         }
         match (
             is_set(map, CURVE),
@@ -40,13 +43,15 @@ impl Form {
             is_set(map, LEG_OUT),
             is_set(map, OUT),
         ) {
-            (true, _, _, false) => Some(Form::Inserting),
-            (false, false, _, true) => Some(Form::Removing),
-            (true, false, false, true) => Some(Form::Changing),
-            _ => None,
+            (true, _, _, false) => Ok(Form::Inserting),
+            (false, false, _, true) => Ok(Form::Removing),
+            (true, false, false, true) => Ok(Form::Changing),
+            _ => Err(Cause::CallMap),
         }
     }
+}
 
+impl Form {
     // The place of a call without a field for it, on a route of so many stops.
     fn absent_place(self, stops: usize) -> usize
         requires { stops ≤ 64 }
@@ -83,7 +88,7 @@ pub(crate) fn read_call(strip: &[u8], at: usize, stops: usize) -> Result<(Splice
     ensures { result ≡ call_at strip.now at stops }
 {
     let mut record = Record::open(strip, at)?;
-    let form = Form::of(record.map).ok_or(Cause::CallMap)?;
+    let form = Form::try_from(record.map)?;
     let curve = record.field(CURVE)?.map_or(0, u8::from_be_bytes);
     let leg_in = record.field(LEG_IN)?.map_or(0, u16::from_be_bytes);
     let leg_out = record.field(LEG_OUT)?.map_or(0, u16::from_be_bytes);

@@ -33,7 +33,8 @@ pub struct Fault {
 
 // A call that the route refused, the count of those accepted before it, and the byte where its record begins.
 // Kept: a type beside `Fault`, since its cause can only be the route's: what the route itself answered is promised of it,
-// and `?` turns it by `From` into the fault that carries the refusal.
+// and `?` turns it by `From` into the fault that carries the refusal. No `Fault<C>` over the kind of cause: every
+// definition that speaks of a fault would carry the parameter, and only this one call makes the other kind.
 #[derive(Clone, Copy, PartialEq, Eq, Debug)]
 pub struct RefusedCall {
     pub refusal: Refusal,

@@ -1,12 +1,13 @@
 ghost use Rattle.std.specs.Prelude.{◌≡◌, ℕ, ◌<◌, ◌≤◌, length, take, IfOk, IfSome, OnErr};
 ghost use Rattle.std.specs.Io.KnownBytes.{Consumes, IsAtEnd};
 
+use crate::rows::LONGEST;
 use std::alloc::Global;
 use std::io;
 use std::io::Read;
 
 // One byte more than a strip may have, so that a longer one is seen to be too long.
-pub const ENOUGH: usize = 4097;
+pub const ENOUGH: usize = LONGEST + 1;
 
 // Fills the buffer from its front until it is full or the input ends, and answers how many bytes came. Of an input
 // whose bytes are known: those stand at the buffer's front, and they are all of it where the buffer is not full. After

@@ -1,4 +1,4 @@
-ghost use Rattle.std.specs.Prelude.{◌≡◌, ◌≤◌, length};
+ghost use Rattle.std.specs.Prelude.{◌≡◌, ◌≤◌, ◌/◌, ◌==◌, length};
 ghost use Rattle.reader.specs.Records.{stands};
 
 use crate::faults::Cause;
@@ -9,6 +9,13 @@ pub(crate) fn is_set(map: u8, bit: u32) -> bool
     ensures { result ≡ stands map bit }
 {
     map.checked_shr(bit).unwrap_or(0) % 2 == 1
+}
+
+// Whether a map has no bit past the five that a row or a call may have.
+pub(crate) fn has_known_bits(map: u8) -> bool
+    ensures { result ≡ (map / 32 == 0) }
+{
+    map / 32 == 0
 }
 
 // A record of a strip: a map byte, and then a field for each of its bits that stands, in the order of the bits. The

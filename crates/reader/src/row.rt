@@ -2,7 +2,7 @@ ghost use Rattle.std.specs.Prelude.{◌≡◌};
 ghost use Rattle.reader.specs.Records.{record_at};
 
 use crate::faults::Cause;
-use crate::record::Record;
+use crate::record::{Record, has_known_bits};
 use source::due::DueRow;
 
 // The bits of a row's map.
@@ -22,7 +22,7 @@ pub(crate) fn read_row(strip: &[u8], at: usize) -> Result<(DueRow, usize), Cause
     ensures { result ≡ record_at strip.now at }
 {
     let mut record = Record::open(strip, at)?;
-    if record.map / 32 != 0 {
+    if !has_known_bits(record.map) {
         return Err(Cause::RowMap);
     }
     let row = DueRow {

@@ -6,9 +6,9 @@ use crate::faults::{Cause, Fault};
 use crate::row::read_row;
 use source::due::DueRow;
 
-const LONGEST: usize = 4096;
+pub(crate) const LONGEST: usize = 4096;
 
-const MOST_ROWS: usize = 64;
+pub(crate) const MOST_ROWS: usize = 64;
 
 // How many rows a strip has, and the byte, counted from 0, where its calls begin.
 // Kept: the rows themselves stand in a table that is lent, so that reading them wants no memory.

@@ -2,7 +2,7 @@ ghost use Rattle.std.specs.Prelude.{◌≡◌, Ok};
 ghost use Rattle.reader.specs.Reading.{rows_answer, strip_answer};
 
 use crate::faults::Fault;
-use crate::rows::{RowsRead, read_rows};
+use crate::rows::{MOST_ROWS, RowsRead, read_rows};
 use source::due::DueRow;
 use std::alloc::{AllocError, Global};
 
@@ -37,7 +37,7 @@ impl<'a> Strip<'a> {
         ensures none { IfOk result (λ r. IfErr r (λ _. HoldsNone bytes.now)) }
     {
         // Kept: `read_rows` fills a table that is lent, so that it wants no memory.
-        let mut table = [DueRow::default(); 64];
+        let mut table = [DueRow::default(); MOST_ROWS];
         match read_rows(bytes, &mut table) {
             Ok(RowsRead { rows, calls }) => {
                 let rows = Vec::from_slice(heap, &table[..rows])?;

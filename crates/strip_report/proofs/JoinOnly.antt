@@ -14,7 +14,7 @@ use Rattle.reader.specs.declared.faults.Fault.{Fault}
 use Rattle.reader.specs.FaultLine.{fault_line}
 use Rattle.reader.specs.declared.rows.RowsRead.{RowsRead}
 use Rattle.reader.specs.Reading.{rows_answer, strip_answer}
-use Rattle.reader.proofs.Fronts.{Front, front}
+use Rattle.reader.proofs.Fronts.{Front, front, alone_by}
 use Rattle.strip_report.specs.Shown.{StripReport}
 use Rattle.strip_report.specs.Joined.{stops_of, join_lines, join_text, JoinReports, JoinPrintedBy, JoinPrintsOnly}
 use Rattle.strip_report.proofs.Only.{report_one}
@@ -94,10 +94,10 @@ module _ (strip : List ℕ) (i leg : ℕ) (other : List ℕ) (j : ℕ) (text : L
 
   -- by what reading the rows of both answered
   by_answers : (r s : Result RowsRead Fault) → r ≡ rows_answer strip 64 → s ≡ rows_answer other 64 → By r s text → ((t : List ℕ) → By r s t → t ≡ text) → JoinPrintsOnly strip i leg other j text
-  by_answers r s e f printed only = record {
-    printed = subst (λ (v : Result RowsRead Fault). By (rows_answer strip 64) v text) f (subst (λ (v : Result RowsRead Fault). By v s text) e printed);
-    only = λ t p. only t (subst (λ (v : Result RowsRead Fault). By v s t) (sym e) (subst (λ (v : Result RowsRead Fault). By (rows_answer strip 64) v t) (sym f) p));
-  }
+  by_answers r s e f printed only =
+      let first = alone_by (λ v. By v s) r (rows_answer strip 64) text e printed only in
+      let by = alone_by (By (rows_answer strip 64)) s (rows_answer other 64) text f first.0 first.1 in
+      record { printed = by.0; only = by.1 }
 
   both_by : (got too : RowsRead) (rows more : List DueRow) → Ok got ≡ rows_answer strip 64 → Ok too ≡ rows_answer other 64 → Front strip got rows → Front other too more
       → JoinReports strip rows got.calls i leg other more too.calls j text → JoinPrintsOnly strip i leg other j text

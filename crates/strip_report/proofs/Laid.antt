@@ -1,7 +1,7 @@
 -- A report written over the front of a buffer is what the front then holds. Assumes nothing.
-use Rattle.std.proofs.Common.{◌≡◌, ℕ, ◌+◌, ◌≤◌, Bool, true, false, cond, leb, List, [], ◌∷◌, ◌++◌, length, take, set, Ok, Err, Result, sym, refl, ap, ◌∙◌, append_assoc, append-nil, arith, length-set}
+use Rattle.std.proofs.Common.{◌≡◌, ℕ, ◌+◌, ◌≤◌, Bool, true, false, cond, leb, List, [], ◌∷◌, ◌++◌, length, take, set, Ok, Err, Result, sym, refl, ap, ◌∙◌, append_assoc, append-nil, arith, length-set, is_ok}
 use Rattle.std.proofs.lemmas.List.{take_more_set, take-take, take-append-le}
-use Rattle.std.proofs.lemmas.Bool.{leb-true, le-leb}
+use Rattle.std.proofs.lemmas.Bool.{leb-true, le-leb, cond-true}
 use Rattle.cost.specs.Texts.{put, laid}
 use Rattle.cost.proofs.Bytes.{laid_fits}
 use Rattle.report.specs.declared.refusal.ReportRefusal.{ReportRefusal}
@@ -40,10 +40,6 @@ front_read buf bytes text k n same e is =
 pub front_lent : (n size : ℕ) (bytes rest : List ℕ) → n ≤ size → n ≤ length bytes → take n (take size (bytes ++ rest)) ≡ take n bytes
 front_lent n size bytes rest h k = take-take n size (bytes ++ rest) h ∙ take-append-le n bytes rest k
 
-unanswered_by : (b : Bool) (n : ℕ) (f : ReportRefusal) → ◌≡◌ {A = Result ℕ ReportRefusal} (Err f) (cond b (Ok n) (Err BufferTooShort)) → b ≡ true → ⊥
-unanswered_by true n f e t = cc
-unanswered_by false n f e t = cc
-
 -- a report that fits is answered
-pub unanswered : (n size : ℕ) (f : ReportRefusal) → Err f ≡ answer n size → n ≤ size → ⊥
-unanswered n size f e h = unanswered_by (leb n size) n f e (le-leb n size h)
+pub fitting : (n size : ℕ) (r : Result ℕ ReportRefusal) → r ≡ answer n size → n ≤ size → is_ok r ≡ true
+fitting n size r e h = ap is_ok (e ∙ cond-true (leb n size) (Ok n) (Err BufferTooShort) (le-leb n size h))

@@ -16,7 +16,7 @@ use Rattle.reader.specs.FaultLine.{fault_line}
 use Rattle.reader.specs.Reading.{rows_answer, strip_answer}
 use Rattle.reader.specs.Running.{begin}
 use Rattle.reader.specs.CallLaws.{answers_in}
-use Rattle.reader.proofs.Fronts.{Front, front}
+use Rattle.reader.proofs.Fronts.{Front, front, alone_by}
 use Rattle.reader.proofs.SameCalls.{calls_same, calls_one}
 use Rattle.strip_report.specs.Shown.{StripReport}
 use Rattle.strip_report.specs.Printed.{promised, both, strip_text, Reports, PrintedBy, PrintsOnly}
@@ -58,12 +58,11 @@ module _ (strip : List ℕ) (rows : List DueRow) (from : ℕ) where
 
 printed_by : (strip : List ℕ) (got : RowsRead) (rows : List DueRow) (text : List ℕ) → Ok got ≡ rows_answer strip 64
     → Front strip got rows → Reports strip rows got.calls text → PrintsOnly strip text
-printed_by strip got rows text answer at_front made = record {
-  printed = subst (λ (r : Result RowsRead Fault). PrintedBy strip r text) answer (rows, at_front.holds, made);
-  only = λ other p.
-      let (held, holds, theirs) = subst (λ (r : Result RowsRead Fault). PrintedBy strip r other) (sym answer) p in
-      reports_one strip rows got.calls other text (subst (λ (l : List DueRow). Reports strip l got.calls other) (at_front.alone held holds) theirs) made;
-}
+printed_by strip got rows text answer at_front made =
+    let one : (t : List ℕ) → PrintedBy strip (Ok got) t → t ≡ text = λ t (held, holds, theirs).
+    reports_one strip rows got.calls t text (subst (λ (l : List DueRow). Reports strip l got.calls t) (at_front.alone held holds) theirs) made in
+    let by = alone_by (PrintedBy strip) (Ok got) (rows_answer strip 64) text answer (rows, at_front.holds, made) one in
+    record { printed = by.0; only = by.1 }
 
 -- the reports of a strip that was read
 pub printed_reports : (strip : List ℕ) (rows : List DueRow) (calls : ℕ) (text : List ℕ) → strip_answer strip ≡ Ok (rows, calls) → Reports strip rows calls text → PrintsOnly strip text
@@ -74,11 +73,8 @@ printed_reports strip rows calls text held made =
 -- the fault in a strip's rows
 pub printed_fault : (strip : List ℕ) (f : Fault) (text : List ℕ) → rows_answer strip 64 ≡ Err f → text ≡ fault_line f → PrintsOnly strip text
 printed_fault strip f text read is =
-    let answer : Err f ≡ rows_answer strip 64 = sym read in
-    record {
-      printed = subst (λ (r : Result RowsRead Fault). PrintedBy strip r text) answer is;
-      only = λ other p. subst (λ (r : Result RowsRead Fault). PrintedBy strip r other) (sym answer) p ∙ sym is;
-    }
+    let by = alone_by (PrintedBy strip) (Err f) (rows_answer strip 64) text (sym read) is (λ t p. p ∙ sym is) in
+    record { printed = by.0; only = by.1 }
 
 pub strip_lawful : (strip : List ℕ) (rows : List DueRow) (calls : ℕ) → strip_answer strip ≡ Ok (rows, calls) → AllLawful rows
 strip_lawful strip rows calls held =

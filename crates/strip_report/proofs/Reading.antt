@@ -1,8 +1,12 @@
 -- What is read of a route after the calls of a strip. Assumes nothing.
-use Rattle.std.proofs.Common.{◌≡◌, ℕ, List, [], length, Result, sym, refl, ap, ◌∙◌, subst}
+use Rattle.std.proofs.Common.{◌≡◌, ℕ, List, [], length, Result, sym, refl, ap, ◌∙◌, subst, decimal, vec_items}
 use Rattle.std.proofs.lemmas.List.{length-map}
 use Rattle.cost.specs.Algebra.{Algebra}
+use Rattle.cost.specs.Amounts.{whole}
 use Rattle.source.specs.Meaning.{Meaning}
+use Rattle.source.specs.Due.{due_meaning}
+use Rattle.source.specs.declared.due.DueBook.{DueBook}
+use Rattle.source.specs.declared.due.DueRow.{DueRow}
 use Rattle.route.specs.declared.stop.Stop.{Stop}
 use Rattle.route.specs.Table.{plains, Marked}
 use Rattle.route.specs.Calls.{route_facts}
@@ -48,3 +52,10 @@ module _ {X E : Type 0} (K : Algebra E) (text : E → List ℕ) (M : X → Meani
       let d : Ran K (M x) strip from [] r us = subst (λ (l : List Stop). Ran K (M x) strip from l r us) f (subst (λ (v : X). Ran K (M v) strip from ts r us) e done) in
       let m : ReportOf K text (M x) us report = subst (λ (v : X). ReportOf K text (M v) us report) same made in
       subst (λ (v : X). Shows K text M x strip from r report v us) (sym same) (at_end us r report d m)
+
+-- over a due book, by its rows
+pub by_rows : (rows : List DueRow) (book kept : DueBook) (strip : List ℕ) (from : ℕ) (r : Result ℕ Fault) (report : List ℕ) (us : List Stop) → vec_items book.rows ≡ rows
+    → Shows whole decimal (λ (b : DueBook). due_meaning (vec_items b.rows)) book strip from r report kept us → Shows whole decimal due_meaning rows strip from r report (vec_items kept.rows) us
+by_rows rows book kept strip from r report us same s =
+    subst (λ (l : List DueRow). Shows whole decimal due_meaning l strip from r report (vec_items kept.rows) us) same
+    (record { source = ap (λ (b : DueBook). vec_items b.rows) s.source; told_by = s.told_by; stops = s.stops })

@@ -2,7 +2,7 @@ ghost use Rattle.std.specs.Prelude.{◌≡◌, ◌+◌, ◌-◌, ◌≤◌, min,
 ghost use Rattle.strip_report.specs.Joined.{joined_units, fault_in, joined_text, join_lines, JoinPrintsOnly};
 
 use crate::pieces::{ending, put_together};
-use crate::shown::show;
+use crate::shown::show_money;
 use crate::text::fault_text;
 use cost::amount::Amount;
 use reader::faults::Fault;
@@ -10,7 +10,6 @@ use reader::lines::refusal_line;
 use reader::strip::Strip;
 use route::join::join;
 use route::stop::Refusal;
-use source::due::DueBook;
 use std::alloc::{AllocError, Global};
 
 // How many stops are joined: the first i of one route, and those of the other from place j on.
@@ -66,12 +65,8 @@ fn join_reports(
 ) -> Result<Vec<u8>, AllocError>
     ensures { IfOk result (λ v. JoinPrintsOnly first.now.bytes.now i leg second.now.bytes.now j v.items) }
 {
-    let a = show(heap, DueBook::of_rows(heap, first.rows.as_slice())?, first)?;
-    let b = show(
-        heap,
-        DueBook::of_rows(heap, second.rows.as_slice())?,
-        second,
-    )?;
+    let a = show_money(heap, first)?;
+    let b = show_money(heap, second)?;
     let count = joined_count(a.route.stop_count(), i, b.route.stop_count(), j);
     let joined = join(&a.route, i, leg, &b.route, j);
     let last = join_lines(heap, count, joined)?;
@@ -82,7 +77,8 @@ fn join_reports(
 
 // What is printed of two strips and the join of the first i stops that one leaves with those of the other from place
 // j on; a fault in the rows of either is printed alone.
-// Kept: the numbers one by one, as the route's `join` takes them.
+// Kept: the numbers one by one: a type for them would be no plainer, since each number stands beside the strip that it
+// counts in.
 #[tactic(auto, using(crate::proofs::JoinOnly::first_fault, crate::proofs::JoinOnly::second_fault))]
 pub fn join_text(
     heap: Global,

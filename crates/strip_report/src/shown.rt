@@ -1,4 +1,6 @@
-ghost use Rattle.std.specs.Prelude.{◌≤◌, IfOk};
+ghost use Rattle.std.specs.Prelude.{◌≤◌, IfOk, decimal};
+ghost use Rattle.cost.specs.Amounts.{whole};
+ghost use Rattle.source.specs.Due.{due_meaning};
 ghost use Rattle.strip_report.specs.Shown.{ReportOf, Shows};
 
 use cost::written::Written;
@@ -7,6 +9,7 @@ use reader::faults::Fault;
 use reader::strip::Strip;
 use report::routes::report;
 use route::table::Route;
+use source::due::DueBook;
 use source::source::Source;
 use std::alloc::{AllocError, Global};
 
@@ -30,10 +33,8 @@ where
     ensures { IfOk result (λ v. ReportOf S.Kind.Cost.algebra S.Kind.Written.text (S.Source.meaning route.now.source) route.now.stops v.items) }
 {
     let mut text = vec![in heap; 0; LONGEST]?;
-    match report(route, text.as_mut_slice()) {
-        Ok(length) => text.truncate(length),
-        Err(_) => unreachable(),
-    }
+    let length = report(route, text.as_mut_slice()).unwrap();
+    text.truncate(length);
     Ok(text)
 }
 
@@ -56,4 +57,12 @@ where
         ended,
         report,
     })
+}
+
+// What a strip leaves by money.
+pub(crate) fn show_money(heap: Global, strip: &Strip<'_>) -> Result<Shown<DueBook>, AllocError>
+    ensures { IfOk result (λ s. Shows whole decimal due_meaning strip.now.rows.items strip.now.bytes.now strip.now.calls s.ended s.report.items s.route.source.rows.items s.route.stops) }
+{
+    let book = DueBook::of_rows(heap, strip.rows.as_slice())?;
+    show(heap, book, strip)
 }

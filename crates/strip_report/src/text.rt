@@ -4,11 +4,10 @@ ghost use Rattle.strip_report.specs.Printed.{strip_text, PrintsOnly};
 
 use crate::books::promise_books;
 use crate::pieces::{ending, put_together};
-use crate::shown::show;
+use crate::shown::{show, show_money};
 use reader::faults::Fault;
 use reader::lines::fault_line;
 use reader::strip::Strip;
-use source::due::DueBook;
 use std::alloc::{AllocError, Global};
 
 // What is printed of a strip whose rows are at fault.
@@ -37,9 +36,8 @@ fn strip_lines(
 fn both_reports(heap: Global, strip: &Strip<'_>) -> Result<Vec<u8>, AllocError>
     ensures { IfOk result (λ v. PrintsOnly strip.now.bytes.now v.items) }
 {
-    let rows = strip.rows.as_slice();
-    let money = show(heap, DueBook::of_rows(heap, rows)?, strip)?;
-    let promise = show(heap, promise_books(heap, rows)?, strip)?;
+    let money = show_money(heap, strip)?;
+    let promise = show(heap, promise_books(heap, strip.rows.as_slice())?, strip)?;
     strip_lines(
         heap,
         money.report.as_slice(),

@@ -1,7 +1,6 @@
-use Rattle.std.proofs.Common.{◌<◌, length, ◌∙◌, subst, arith}
+use Rattle.std.proofs.Common.{◌∙◌, arith}
 use Rattle.std.proofs.lemmas.Result.{err_from_is_err_and}
-use Rattle.reader.specs.Ran.{CallRan}
-use Rattle.reader.proofs.Running.{Onward, Further, turn, turn_further, fault_turn, last_turn, past_end}
+use Rattle.reader.proofs.Running.{Onward, Further, over_first, turn, turn_further, fault_turn, last_turn, past_end}
 use Rattle.reader.proofs.calls.run_calls.Given as given
 use Rattle.reader.proofs.calls.run_calls.Goals as goal
 
@@ -10,21 +9,10 @@ turned : (g : given.Over) (c : goal.In_ok-here g)
     → Further c.args.strip.now c.loop-here.here c.in_ok-here.here
     × Onward g.S.Kind.Cost.algebra (g.S.Source.meaning c.args.route.now.source) c.args.strip.now c.args.at c.args.route.now.stops c.in_ok-here.here c.run_call.new.route.stops
 turned g c =
-    let K = g.S.Kind.Cost.algebra in
-    let M = g.S.Source.meaning in
-    let bytes = c.args.strip.now in
-    let before = c.args.route.now.stops in
-    let here = c.loop-here.here in
-    let there = c.in_ok-here.here in
-    let ss = c.loop-here.route.stops in
-    let ts = c.run_call.new.route.stops in
-    let r = c.run_call.result in
-    let call = subst (λ (x : g.row.S.Denot). CallRan K (M x) bytes here ss r ts) c.loop-here.invariant.2 c.run_call.ensures.ran in
+    let call = over_first g.S.Source.meaning c.loop-here.invariant.2 c.run_call.ensures.ran in
     let was = c.in_ok-here.was in
-    let inside : here.byte < length bytes = omega arith in (
-      turn_further K (M c.args.route.now.source) bytes c.args.at before here ss ts r c.loop-here.invariant.3 call there was,
-      turn K (M c.args.route.now.source) bytes c.args.at before here ss ts r c.loop-here.invariant.3 call there was inside,
-    )
+    let on = c.loop-here.invariant.3 in
+    (turn_further _ _ _ _ _ _ _ _ _ on call _ was, turn _ _ _ _ _ _ _ _ _ on call _ was (omega arith))
 
 pub returns-then-strip-at-clause-ran : goal.returns-then-strip-at-clause-ran
 returns-then-strip-at-clause-ran g c =
@@ -32,20 +20,11 @@ returns-then-strip-at-clause-ran g c =
 
 pub returns-in_err-here : goal.returns-in_err-here
 returns-in_err-here g c =
-    let K = g.S.Kind.Cost.algebra in
-    let M = g.S.Source.meaning in
-    let bytes = c.args.strip.now in
-    let before = c.args.route.now.stops in
-    let here = c.loop-here.here in
-    let ss = c.loop-here.route.stops in
-    let ts = c.run_call.new.route.stops in
-    let r = c.run_call.result in
-    let call = subst (λ (x : g.row.S.Denot). CallRan K (M x) bytes here ss r ts) c.loop-here.invariant.2 c.run_call.ensures.ran in
+    let call = over_first g.S.Source.meaning c.loop-here.invariant.2 c.run_call.ensures.ran in
     let told = err_from_is_err_and c.from_residual.result c.from_residual.ensures.1 in
-    let inside : here.byte < length bytes = omega arith in
     record {
       source = c.run_call.ensures.source ∙ c.loop-here.invariant.2;
-      ran = rw (told.1, told.2) (fault_turn K (M c.args.route.now.source) bytes c.args.at before here ss ts r c.loop-here.invariant.3 call c.in_err-here.field-0.0 c.in_err-here.was inside);
+      ran = rw (told.1, told.2) (fault_turn _ _ _ _ _ _ _ _ _ c.loop-here.invariant.3 call _ c.in_err-here.was (omega arith));
     }
 
 pub loop-here-smaller : goal.loop-here-smaller
