@@ -65,7 +65,7 @@ fn the_largest_number_has_twenty_digits(rt: HostRuntime) {
 
 #[test]
 fn a_text_of_texts_is_written_in_order(rt: HostRuntime) {
-    let line = (*b"least ", (7, *b"\n"));
+    let line = (*b"least ", (7_u64, *b"\n"));
     let mut buf = [b'-'; 9];
     assert_eq!(rt; line.write(&mut buf, 0), Some(8));
     assert!(rt; buf == *b"least 7\n-");
