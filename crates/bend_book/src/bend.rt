@@ -18,7 +18,9 @@ pub struct Bend {
     pub step: i16,
 }
 
-// A curve from `first` to `last` that costs `start` at first, and whose bends are `count` entries of the book's table, the first at entry number `from`.
+// A curve from `first` to `last` that costs `start` at first, and whose bends are `count` entries of the book's table, the
+// first at entry number `from`.
+// Kept: `from` and `count` as numbers, since the rules have heads and bends in two tables.
 #[derive(Clone, Copy, PartialEq, Eq, Debug, Default)]
 pub struct BendHead {
     pub first: u16,

@@ -27,6 +27,7 @@ fn insert(place: usize, curve: u8, leg_in: u16, leg_out: u16) -> Splice {
 
 // Two routes over the rows by money, each with its splices, and the join of the first i stops of one, by a leg, with the
 // stops of the other from place j on.
+// Kept: the numbers one by one, in the order of `whole_run`, to which they are handed on.
 fn by_money(
     heap: Global,
     first: &[Splice],
@@ -42,7 +43,8 @@ fn by_money(
 }
 
 // The rows by promise: minutes late, then money.
-// Kept: beside the like function of `strip_report`, since here the rows by minutes late come from the table of the cards.
+// Kept: beside the like function of `strip_report`, since to share it `cards` would need that crate, and the reader and
+// the report under it, for four lines.
 fn promise_books(heap: Global) -> Result<Pairing<DueBook, DueBook>, AllocError> {
     Ok(Pairing {
         first: DueBook::of_rows(heap, &late_rows())?,

@@ -35,8 +35,8 @@ pub trait Text {
 }
 
 // Puts a number in decimal.
-// Kept: digit by digit, since std prints a number only into a string on the heap or through a formatter, and the
-// engine uses no crate beyond std.
+// Kept: digit by digit, since std prints a number only into a string on the heap or through a formatter, and a crate
+// that does it without would be no plainer: one more under every crate, for these few lines.
 #[tactic(auto, using(crate::proofs::Pieces::puts_digit, crate::proofs::Pieces::puts_last, crate::proofs::Pieces::puts_front))]
 fn put_decimal<T: Target>(n: u64, target: &mut T) -> Option<()>
     ensures { Puts T.model (decimal n) target.old target.new result }

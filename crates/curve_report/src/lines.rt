@@ -39,6 +39,7 @@ fn facts_line(heap: Global, facts: CurveFacts) -> Result<String, AllocError>
 }
 
 // The line of an open curve.
+// Kept: that it is open is a premise, here and of what hands it on, since whether a curve is open depends on its book.
 pub(crate) fn curve_line(heap: Global, book: &DueBook, curve: u8) -> Result<String, AllocError>
     requires { IsOpen book.now.rows.items curve }
     ensures { IfOk result (λ s. CurveLine book.now.rows.items curve (string_bytes s)) }
@@ -55,7 +56,7 @@ pub(crate) fn curve_line(heap: Global, book: &DueBook, curve: u8) -> Result<Stri
     facts_line(heap, facts)
 }
 
-// How many rows there are.
+// The line that says how many rows there are.
 pub(crate) fn rows_line(heap: Global, count: usize) -> Result<String, AllocError>
     ensures { IfOk result (λ s. string_bytes s ≡ rows_line count) }
 {

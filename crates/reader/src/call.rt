@@ -53,6 +53,8 @@ impl TryFrom<u8> for Form {
 
 impl Form {
     // The place of a call without a field for it, on a route of so many stops.
+    // Kept: here and in the two that hand it on a premise, since a number of stops has no other fact than this one, and a
+    // type for it would be made and opened at once.
     fn absent_place(self, stops: usize) -> usize
         requires { stops ≤ 64 }
         ensures value { result ≡ absent_place self stops }

@@ -12,6 +12,7 @@ use route::table::Route;
 use source::source::Source;
 
 // How many calls were accepted, and the byte where the next record begins.
+// Kept: two fields in a fault too, since specs/ and who prints a fault name them one by one.
 #[derive(Clone, Copy, PartialEq, Eq, Debug)]
 pub(crate) struct Progress {
     pub(crate) count: usize,

@@ -52,7 +52,7 @@ where
     S::Kind: Written<S::Exact>,
     ensures { Reported S.Kind.Cost.algebra S.Kind.Written.text S.Kind.Written.longest (S.Source.meaning route.now.source) route.now.stops buf.old buf.new result }
 {
-    // Kept: an array, since a report wants no memory of the heap.
+    // Kept: an array, with an entry for each stop that a route may have, since a report wants no memory of the heap.
     let mut table = [Facts::default(); 64];
     let entries = &mut table[..route.stop_count()];
     read_facts(route, entries);

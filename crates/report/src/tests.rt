@@ -74,8 +74,8 @@ fn row(due: u16, early: u16, late: u16) -> DueRow {
 
 #[test]
 fn a_route_is_reported(rt: HostRuntime) -> Result<(), Fail> {
-    let rows = [row(600, 1, 3), row(605, 2, 2)].to_vec(rt.alloc())?;
-    let mut route = Route::open(rt.alloc(), DueBook::new(rows))?;
+    let book = DueBook::of_rows(rt.alloc(), &[row(600, 1, 3), row(605, 2, 2)])?;
+    let mut route = Route::open(rt.alloc(), book)?;
     route.insert(1, 0, 0, 0)?;
     route.insert(2, 1, 10, 0)?;
     let mut buf = [b'-'; 68];

@@ -64,7 +64,7 @@ impl<'a, S: Source> Draft<'a, S> {
     }
 
     // The route as a splice of its stops would have it.
-    // Kept: a premise, since it depends on a count outside the splice.
+    // Kept: premises, since a place depends on a count outside its splice, and a slice that a table lends has no invariant.
     #[tactic(auto, using(crate::proofs::Splices::remove_parts))]
     pub(crate) fn spliced(source: &'a S, stops: &'a [Stop], splice: Splice) -> Draft<'a, S>
         requires few { length stops.now ≤ 64 }

@@ -69,6 +69,7 @@ fn all_marks<L: Line>(line: &L) -> [u16; MOST_JOINED]
 }
 
 // The least cost of a line that has a timetable. All its marks are worked out anew.
+// Kept: premises, since a line of any kind has no invariant; the draft of a join promises them.
 #[tactic(auto, using(crate::proofs::Readings::minutes_take, crate::proofs::Readings::least_by))]
 fn least_of<L: Line>(line: &L) -> L::Kind
     requires sound { Sound L.Kind.Cost.algebra (L.visits line.now) }

@@ -20,8 +20,8 @@ fn refresh_from<S: Source>(source: &S, stops: &mut StopTable, from: usize)
     ensures few { length stops.new ≤ 64 }
 {
     let mut marks = stops.marks();
-    let table = Draft::part(source, stops.as_slice(), None);
-    refresh(&table, &mut marks, from);
+    let line = Draft::part(source, stops.as_slice(), None);
+    refresh(&line, &mut marks, from);
     stops.set_marks(&marks);
 }
 

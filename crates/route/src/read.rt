@@ -40,6 +40,7 @@ impl<S: Source> Route<S> {
     fn told(&self, i: usize, stop: Stop) -> Facts
         ensures { result ≡ facts_of stop (slice_index (timed S.Kind.Cost.algebra (S.Source.meaning self.now.source) self.now.stops) i) }
     {
+        // Kept: field by field, since facts are told flat; a `From` of the stop and its minute would be these lines.
         Facts {
             curve: stop.curve,
             leg: stop.leg,
@@ -55,14 +56,14 @@ impl<S: Source> Route<S> {
     {
         let stops = self.stops.as_slice();
         Refusal::Place.refuse_if(is_outside(place, stops.len()))?;
-        // Kept: an index after the test, since the test is the examination that the rules name.
+        // Kept: an index after the test, since `checked_sub` and `get` would each want the refusal that one examination
+        // gives, as it does for splices.
         let i = place - 1;
         Ok(self.told(i, stops[i]))
     }
 
     // The facts of all stops, in order.
-    // Kept: a report reads them into an array that is lent to it, since it wants no memory; here they are as many as
-    // the stops.
+    // Kept: a report reads them into an array of its own, since it wants no memory; here they are as many as the stops.
     pub(crate) fn all_facts(&self, heap: Global) -> Result<Vec<Facts>, AllocError>
         ensures { IfOk result (λ facts. facts.items ≡ map (λ p. facts_of p.1 (slice_index (timed S.Kind.Cost.algebra (S.Source.meaning self.now.source) self.now.stops) p.0)) (enumerate_from 0 self.now.stops)) }
     {

@@ -25,6 +25,8 @@ impl<S: Source + Drop> Route<S> {
 
 impl<S: Source> Route<S> {
     // Makes a splice, or refuses it.
+    // Kept: that the source stays is a clause of each call that alters a route, since an invariant speaks of one state
+    // of a value and not of two.
     pub fn apply(&mut self, splice: Splice) -> Result<(), Refusal>
         ensures source { self.new.source ≡ self.old.source }
         ensures spliced { Spliced S.Kind.Cost.algebra (S.Source.meaning self.old.source) self.old.stops splice result self.new.stops }

@@ -16,6 +16,7 @@ pub struct Stop {
 
 impl Stop {
     // A stop whose mark is still to be found.
+    // Kept: 0 and no Option, since every stop of a route has its mark; it is 0 only within a splice.
     pub(crate) fn new(curve: u8, leg: u16) -> Stop
         ensures { result ≡ record { curve = curve; leg = leg; mark = 0 } }
     {

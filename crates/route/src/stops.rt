@@ -88,7 +88,7 @@ impl StopTable {
         ensures { Altered self.old (Change place curve) self.new }
     {
         // Kept: a record of the inner table is lent to be altered, as the rules of the subject's code ask; nothing else
-        // of it changes.
+        // of it changes. By its number, since the premise says that it is there, and `get_mut` adds a branch that never runs.
         let stop = &mut self.stops[place - 1];
         stop.curve = curve;
     }

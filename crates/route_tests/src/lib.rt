@@ -13,7 +13,6 @@ mod tests {
     use source::pairing::Pairing;
     use source::weight::Weight;
     use std::alloc::{AllocError, Global};
-    use std::process::Abort;
     use std::test::Fail;
 
     const ROWS: [DueRow; 4] = [
@@ -89,7 +88,7 @@ mod tests {
 
     // What is read of a route: the facts of all its stops, and its least cost.
     fn reads(
-        rt: &(impl Abort + AllocGlobal),
+        rt: &HostRuntime,
         route: &Route<DueBook>,
         stops: &[Facts],
         least: u64,

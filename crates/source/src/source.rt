@@ -13,6 +13,7 @@ pub trait Source {
     ghost meaning: { Self → Meaning Self.Exact };
 
     // The first and last minute of a curve, absent where it is closed.
+    // Kept: a pair of minutes, since the rules hand them over together so, and the meaning tells a window as first and last.
     fn window(&self, curve: u8) -> Option<(u16, u16)>
         ensures { result ≡ span_of ((meaning self.now).curve curve) };
 

@@ -125,8 +125,8 @@ mod tests {
 
     #[test]
     fn cheapest_minutes(rt: HostRuntime) -> Result<(), Fail> {
-        let rows = vec![in rt.alloc(); row(590, 610, 600, 0, 0), row(0, 10, 600, 1, 1)]?;
-        let book = DueBook::new(rows);
+        let rows = [row(590, 610, 600, 0, 0), row(0, 10, 600, 1, 1)];
+        let book = DueBook::of_rows(rt.alloc(), &rows)?;
         let Some(flat) = cheapest(&book, 0) else {
             return Err(Fail::new("closed"));
         };
@@ -153,8 +153,8 @@ mod tests {
 
     #[test]
     fn piles_of_weights(rt: HostRuntime) -> Result<(), Fail> {
-        let rows = vec![in rt.alloc(); row(0, 10, 5, 1, 1)]?;
-        let twice = Weight::new(Weight::new(DueBook::new(rows), [101; 64]), [2; 64]);
+        let book = DueBook::of_rows(rt.alloc(), &[row(0, 10, 5, 1, 1)])?;
+        let twice = Weight::new(Weight::new(book, [101; 64]), [2; 64]);
         assert_eq!(rt; twice.window(0), Some((0, 10)));
         assert_eq!(rt; units(twice.cost(0, 8)), Some(600));
         assert_eq!(rt; twice.peak(), 20971520000);
@@ -167,11 +167,11 @@ mod tests {
 
     #[test]
     fn common_minutes(rt: HostRuntime) -> Result<(), Fail> {
-        let late = vec![in rt.alloc(); row(0, 10, 5, 0, 1), row(0, 10, 5, 0, 1)]?;
-        let money = vec![in rt.alloc(); row(10, 20, 20, 2, 3), row(11, 20, 20, 2, 3)]?;
+        let late = [row(0, 10, 5, 0, 1), row(0, 10, 5, 0, 1)];
+        let money = [row(10, 20, 20, 2, 3), row(11, 20, 20, 2, 3)];
         let both = Pairing {
-            first: DueBook::new(late),
-            second: DueBook::new(money),
+            first: DueBook::of_rows(rt.alloc(), &late)?,
+            second: DueBook::of_rows(rt.alloc(), &money)?,
         };
         assert_eq!(rt; both.window(0), Some((10, 10)));
         assert_eq!(rt; both.window(1), None);

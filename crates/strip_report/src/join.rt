@@ -21,7 +21,7 @@ fn joined_count(front: usize, i: usize, back: usize, j: usize) -> usize
     i.min(front) + back.saturating_sub(j.saturating_sub(1))
 }
 
-fn put_joined(heap: Global, count: usize, least: u64) -> Result<String, AllocError>
+fn joined_line(heap: Global, count: usize, least: u64) -> Result<String, AllocError>
     ensures { IfOk result (λ s. string_bytes s ≡ joined_text count least) }
 {
     format!(in heap; "joined {count}\nleast {least}\n")
@@ -36,7 +36,7 @@ fn join_lines(
     ensures { IfOk result (λ s. string_bytes s ≡ join_lines count (joined_units joined)) }
 {
     match joined {
-        Ok(least) => put_joined(heap, count, least.units()),
+        Ok(least) => joined_line(heap, count, least.units()),
         Err(refusal) => refusal_line(heap, refusal),
     }
 }
@@ -55,6 +55,7 @@ fn half_text(
 }
 
 // What is printed of two strips whose rows are lawful, and of the join of the routes that their calls leave.
+// Kept: the numbers one by one, as in `join_text`.
 fn join_reports(
     heap: Global,
     first: &Strip<'_>,

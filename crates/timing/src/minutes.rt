@@ -45,7 +45,8 @@ impl<L: Line> MarkedLine<'_, L> {
         ensures { let ts = minutes (L.visits self.now.line.now) self.now.marks.now in
             next ≡ slice_index ts (j + 1) → result ≡ slice_index ts j }
     {
-        // Kept: by number, since a line's stops have no other name.
+        // Kept: by number, since an iterator would hand the mark over beside its number, and a premise would have to say
+        // that they belong together.
         let mark = self.marks[j];
         if j + 1 < self.count() {
             mark.min(latest_before(self.line, j + 1, next))
@@ -55,6 +56,7 @@ impl<L: Line> MarkedLine<'_, L> {
     }
 
     // The minute of stop i in the timetable that the marks give: 0 where the stop has no mark.
+    // Kept: 0 and no Option, since the promise is an entry of a list, which is 0 past its end.
     pub fn minute(&self, i: usize) -> u16
         ensures { result ≡ slice_index (minutes (L.visits self.now.line.now) self.now.marks.now) i }
     {

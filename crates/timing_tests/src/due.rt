@@ -1,4 +1,5 @@
 // A stop of a test line: its window, when it is due, what a minute early or late costs, and the leg before it.
+// Kept: fields of its own and no `DueRow`, since the timing is tested without sources.
 #[derive(Clone, Copy)]
 pub struct Due {
     pub first: u16,

@@ -20,7 +20,7 @@ returns g c =
     let i = c.args.from in
     let few : length us ≤ 64 = c.as_slice.ensures.few in
     let long = c.marks-marks.ensures.room in
-    let lines = table_line K g.S.Source.meaning c.part-table.result.source c.args.source.now c.part-table.result.stops c.as_slice.result.now us c.part-table.ensures.source c.part-table.ensures.stops c.as_slice.ensures.value in
+    let lines = table_line K g.S.Source.meaning c.part-line.result.source c.args.source.now c.part-line.result.stops c.as_slice.result.now us c.part-line.ensures.source c.part-line.ensures.stops c.as_slice.ensures.value in
     let found = subst (λ (vs : List (Visit g.row.S-Exact.Denot)). Sound K vs → Feasible vs → i ≤ length vs → length vs ≤ length old → Marks K (take i vs) (take i old) → Marks K vs (take (length vs) new)) lines c.refresh.ensures.marked in
     let done = refreshed K m c.requires us ts old new i few long (c.refresh.auto.marks ∙ long) c.marks-marks.ensures.marks c.set_marks.ensures c.refresh.ensures.before found in
     record { refreshed = done; few = omega (arith, few, length-map ts plain, ap length done.stops, length-map us plain) }
