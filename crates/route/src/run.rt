@@ -21,6 +21,7 @@ fn make_all<S: Source>(
     ensures source { route.new.source ≡ route.old.source }
     ensures runs { IfOk result (λ answers. Runs S.Kind.Cost.algebra (S.Source.meaning route.old.source) (plains route.old.stops) splices.now answers.items (plains route.new.stops)) }
 {
+    // Kept: a loop that pushes, since of a route that a closure in a chain alters the proof did not close (tried).
     let mut answers = Vec::new(heap);
     for splice in splices {
         answers.push(route.apply(*splice))?;

@@ -46,6 +46,7 @@ mod tests {
         },
     ];
 
+    // Kept: written out, so that the test does not rest on the method that makes such rows.
     const LATE: [DueRow; 4] = [
         DueRow {
             first: 0,

@@ -127,14 +127,10 @@ mod tests {
     fn cheapest_minutes(rt: HostRuntime) -> Result<(), Fail> {
         let rows = [row(590, 610, 600, 0, 0), row(0, 10, 600, 1, 1)];
         let book = DueBook::of_rows(rt.alloc(), &rows)?;
-        let Some(flat) = cheapest(&book, 0) else {
-            return Err(Fail::new("closed"));
-        };
+        let flat = cheapest(&book, 0).expect(&rt, "open");
         assert_eq!(rt; flat.0, 590);
         assert_eq!(rt; flat.1.units(), 0);
-        let Some(falling) = cheapest(&book, 1) else {
-            return Err(Fail::new("closed"));
-        };
+        let falling = cheapest(&book, 1).expect(&rt, "open");
         assert_eq!(rt; falling.0, 10);
         assert_eq!(rt; falling.1.units(), 590);
         assert!(rt; cheapest(&book, 2).is_none());
@@ -175,9 +171,7 @@ mod tests {
         };
         assert_eq!(rt; both.window(0), Some((10, 10)));
         assert_eq!(rt; both.window(1), None);
-        let Some(cost) = both.cost(0, 10) else {
-            return Err(Fail::new("closed"));
-        };
+        let cost = both.cost(0, 10).expect(&rt, "open");
         assert_eq!(rt; cost.first.units(), 5);
         assert_eq!(rt; cost.second.units(), 20);
         Ok(())
