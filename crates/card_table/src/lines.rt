@@ -28,6 +28,7 @@ pub fn facts_lines(heap: Global, facts: &[Facts]) -> Result<String, AllocError>
 }
 
 // The line of a refusal, which is told by a word.
+// Kept: beside the like line of `reader`, since cards do not use that crate, for one format.
 fn refused_line(heap: Global, word: &str, refusal: Refusal) -> Result<String, AllocError>
     ensures { IfOk result (λ s. string_bytes s ≡ refused_line word.now refusal) }
 {

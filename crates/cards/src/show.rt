@@ -51,6 +51,7 @@ pub fn show_join(
 }
 
 // What the book's first curve costs at these minutes.
+// Kept: a loop that pushes, as for the lines of a card's stops.
 pub fn show_costs(
     rt: &HostRuntime,
     name: &str,

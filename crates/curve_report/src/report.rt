@@ -9,6 +9,8 @@ use source::due::{DueBook, DueRow};
 use std::alloc::{AllocError, Global};
 
 // The lines of a book's first so many curves.
+// Kept: a loop that pushes, since each line wants memory, and for the like lines of cards the proof of a chain did not
+// close.
 #[tactic(auto, using(crate::proofs::Open::one_more))]
 fn curve_lines(heap: Global, book: &DueBook, count: u8) -> Result<String, AllocError>
     requires { (k : ℕ) → k < count → IsOpen book.now.rows.items k }
@@ -46,6 +48,8 @@ fn held_rows_text(heap: Global, strip: &Strip<'_>) -> Result<String, AllocError>
 }
 
 // What is printed of a strip: a line for each of its curves and how many there are, or its fault.
+// Kept: beside the like function of `strip_report`, since the two make texts of two types; one for both would take what
+// makes each as a parameter and be no plainer.
 #[tactic(auto, using(crate::proofs::Front::printed_fault))]
 pub fn curves_text(heap: Global, strip: &[u8]) -> Result<String, AllocError>
     ensures { IfOk result (λ s. PrintsOnly strip.now (string_bytes s)) }

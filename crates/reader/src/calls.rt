@@ -112,7 +112,8 @@ pub fn run_calls<S: Source>(route: &mut Route<S>, strip: &[u8], at: usize) -> Re
         return Err(past_end(at));
     }
     let mut here = Progress::begin(at);
-    // Kept: a `while`, since each record tells where the next one begins.
+    // Kept: a `while`, since each record tells where the next one begins; an iterator would carry the same place and be no
+    // plainer.
     while here.byte < strip.len() {
         here = run_call(route, strip, here)?;
     }

@@ -20,8 +20,8 @@ pub fn read_strip<R: Read>(input: &mut R, buffer: &mut [u8]) -> io::Result<usize
     ensures all { IfOk result (λ n. n < length buffer.old → IsAtEnd (R.remaining input.new)) }
     ensures kept { OnErr result ((k : ℕ) × (k ≤ length buffer.old) × Consumes (R.remaining input.old) (R.remaining input.new) (take k buffer.new)) }
 {
-    // Kept: a loop, since `read_exact` fails where the input ends before, and `io::copy` into a cursor promises neither
-    // the bytes in the slice nor what came before an error.
+    // Kept: a loop, since `read_exact` fails where the input ends before, and of `io::copy` into a cursor no proof can
+    // close: it promises neither the bytes in the slice nor what came before an error.
     let mut filled = 0;
     for _ in 0..buffer.len() {
         let got = input.read(&mut buffer[filled..])?;

@@ -28,6 +28,7 @@ fn joined_line(heap: Global, count: usize, least: u64) -> Result<String, AllocEr
 }
 
 // How many stops are joined and the least cost, or why there is no join.
+// Kept: beside the like line of cards, which tells no number of stops and takes the word of a refusal.
 fn join_lines(
     heap: Global,
     count: usize,
