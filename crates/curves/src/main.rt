@@ -6,7 +6,7 @@ use reader::input::read_whole;
 use std::io;
 
 fn main(rt: HostRuntime) -> io::Result<()> {
-    let strip = read_whole(rt.alloc(), rt.stdin())?;
+    let strip = read_whole(rt.alloc(), &mut rt.stdin())?;
     let text = curves_text(rt.alloc(), strip.as_slice())?;
     print!(rt; "{text}")
 }

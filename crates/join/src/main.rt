@@ -11,7 +11,7 @@ use strip_report::join::join_text;
 const USAGE: &str = "usage: join FIRST I LEG SECOND J (two strip files, and whole numbers)";
 
 fn read_file(rt: &HostRuntime, path: &str) -> io::Result<Vec<u8>> {
-    read_whole(rt.alloc(), File::open(rt, path)?)
+    read_whole(rt.alloc(), &mut File::open(rt, path)?)
 }
 
 // The bytes of a strip file; what is wrong is told with the file's name.

@@ -7,5 +7,7 @@ mod CallRuns
 mod Running
 pub mod Fronts
 pub mod SameCalls
-mod Whole
+pub mod Stays
+mod Retrying
+pub mod Whole
 pub mod Filling

@@ -109,12 +109,13 @@ fn input_fills_the_front(rt: HostRuntime) {
 
 #[test]
 fn inputs_are_read_whole(rt: HostRuntime) -> Result<(), Fail> {
-    let short: &[u8] = &[1, 2, 3];
-    let strip = read_whole(rt.alloc(), short)?;
+    let mut short: &[u8] = &[1, 2, 3];
+    let strip = read_whole(rt.alloc(), &mut short)?;
     assert!(rt; strip.as_slice() == [1, 2, 3].as_slice());
-    let long: &[u8] = &[9; 5000];
-    let strip = read_whole(rt.alloc(), long)?;
+    let mut long: &[u8] = &[9; 5000];
+    let strip = read_whole(rt.alloc(), &mut long)?;
     assert_eq!(rt; strip.len(), 4097);
+    assert_eq!(rt; long.len(), 903);
     Ok(())
 }
 

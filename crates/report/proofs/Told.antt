@@ -19,6 +19,11 @@ all_facts_at (s ∷ ss) [] i d h k = absurd (omega arith)
 all_facts_at (s ∷ ss) (t ∷ ts) zero d h k = refl
 all_facts_at (s ∷ ss) (t ∷ ts) (suc i) d h k = all_facts_at ss ts i d (omega arith) (omega arith)
 
+-- one more entry is copied into a table
+pub copied_more : (xs fs : List Facts) (i : ℕ) (f d : Facts) → i < length xs → i < length fs → f ≡ get_or fs i d → take i xs ≡ take i fs → take (i + 1) (set xs i f) ≡ take (i + 1) fs
+copied_more xs fs i f d h k e same =
+    take_more_set xs i f h ∙ ap (λ (l : List Facts). l ++ f ∷ []) same ∙ ap (λ (g : Facts). take i fs ++ g ∷ []) e ∙ sym (take_more fs i d k)
+
 module _ {E : Type 0} (K : Algebra E) (m : Meaning E) (ss : List Stop) where
   pub all_length : length (route_facts K m ss) ≡ length ss
   all_length = all_facts_length ss (timed K m ss) (length_timed K m ss)
@@ -27,11 +32,11 @@ module _ {E : Type 0} (K : Algebra E) (m : Meaning E) (ss : List Stop) where
   pub read_next : (i : ℕ) (d : Facts) → i < length ss → facts_at ss (timed K m ss) (i + 1) ≡ Ok (get_or (route_facts K m ss) i d)
   read_next i d h = facts_there ss (timed K m ss) i h ∙ ap Ok (sym (all_facts_at ss (timed K m ss) i d (length_timed K m ss) h))
 
-  -- one more of the list is copied into a table
-  pub copied_more : (xs : List Facts) (i : ℕ) (f : Facts) → length xs ≡ length ss → i < length xs → ((d : Facts) → f ≡ get_or (route_facts K m ss) i d) → take i xs ≡ take i (route_facts K m ss) → take (i + 1) (set xs i f) ≡ take (i + 1) (route_facts K m ss)
-  copied_more xs i f size h e same =
+  -- the same of the facts of all stops
+  pub copied_next : (xs : List Facts) (i : ℕ) (f : Facts) → length xs ≡ length ss → i < length xs → ((d : Facts) → f ≡ get_or (route_facts K m ss) i d) → take i xs ≡ take i (route_facts K m ss) → take (i + 1) (set xs i f) ≡ take (i + 1) (route_facts K m ss)
+  copied_next xs i f size h e same =
       let long = all_length in
-      take_more_set xs i f h ∙ ap (λ (l : List Facts). l ++ f ∷ []) same ∙ ap (λ (g : Facts). take i (route_facts K m ss) ++ g ∷ []) (e f) ∙ sym (take_more (route_facts K m ss) i f (omega arith))
+      copied_more xs (route_facts K m ss) i f f h (omega arith) (e f) same
 
   -- all of it is copied
   pub copied_all : (xs : List Facts) (i : ℕ) → length xs ≡ length ss → length xs ≤ i → take i xs ≡ take i (route_facts K m ss) → xs ≡ route_facts K m ss

@@ -21,7 +21,7 @@ fn read_entry<S: Source>(route: &Route<S>, i: usize, entry: &mut Facts)
 }
 
 // Reads the facts of all stops into a table with an entry for each.
-#[tactic(auto, using(crate::proofs::Told::copied_more, crate::proofs::Told::copied_all))]
+#[tactic(auto, using(crate::proofs::Told::copied_next, crate::proofs::Told::copied_all))]
 fn read_facts<S: Source>(route: &Route<S>, entries: &mut [Facts])
     requires all { length entries.old ≡ length route.now.stops }
     requires few { length entries.old ≤ 64 }

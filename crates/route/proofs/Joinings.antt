@@ -1,10 +1,12 @@
 -- Joined stops: their least cost, and their line.
-use Rattle.std.proofs.Common.{◌≡◌, ℕ, ◌-◌, ◌≤◌, List, [], ◌∷◌, length, take, drop, Some, None, Ok, Err, Option, Result, refl, sym, ap, ◌∙◌, subst, arith}
-use Rattle.std.proofs.lemmas.List.{length-map, length-take, length-drop}
+use Rattle.std.proofs.Common.{◌≡◌, ℕ, ◌+◌, ◌-◌, ◌≤◌, List, [], ◌∷◌, ◌++◌, length, take, drop, Some, None, Ok, Err, Option, Result, refl, sym, ap, ◌∙◌, subst, arith}
+use Rattle.std.proofs.lemmas.List.{length-map, length-append, length-take, length-drop}
 use Rattle.cost.specs.Algebra.{Algebra}
-use Rattle.source.specs.Meaning.{Meaning}
+use Rattle.source.specs.Meaning.{Meaning, Lawful}
 use Rattle.timing.specs.Visits.{Visit}
+use Rattle.timing.specs.Timetables.{Timetable, Feasible, bill}
 use Rattle.timing.specs.Marks.{Marks}
+use Rattle.timing.specs.Minutes.{minutes}
 use Rattle.timing.specs.Sound.{Sound}
 use Rattle.route.specs.declared.stop.Stop.{Stop}
 use Rattle.route.specs.declared.stop.Refusal.{Refusal}
@@ -16,13 +18,30 @@ use Rattle.route.specs.Refusals.{number}
 use Rattle.route.specs.Steps.{Served}
 use Rattle.route.specs.Joins.{Least, joined, objection_to_join, JoinJudged, exactly, refused, blocked, accepted}
 use Rattle.route.proofs.Soundness.{lawful_sound, sound_append}
+use Rattle.route.proofs.Readings.{minutes_take, least_by}
 
 pub no_marks : {E : Type 0} (K : Algebra E) → Marks K [] []
 no_marks K = record { many = refl; each = λ i h. absurd (omega arith) }
 
-length_releg : (l : ℕ) (ps : List Plain) → length (releg l ps) ≡ length ps
+pub length_releg : (l : ℕ) (ps : List Plain) → length (releg l ps) ≡ length ps
 length_releg l [] = refl
 length_releg l (p ∷ ps) = refl
+
+-- what marks of the joined stops give is the least cost, where they have a timetable
+module _ {E : Type 0} (K : Algebra E) (m n : Meaning E) (ps qs : List Plain) where
+  abbrev both : List (Visit E)
+  both = visits K m ps ++ visits K n qs
+
+  pub joined_least : Lawful K m → Lawful K n → length ps + length qs ≤ 128 → (new : List ℕ) (x : E)
+      → (Sound K both → Feasible both → length both ≤ 128 → Marks K both (take (length both) new))
+      → (Sound K both → Timetable both (minutes both new) → x ≡ bill K both (minutes both new))
+      → Feasible both → Least K both x
+  joined_least lm ln few new x found billed feasible =
+      let a = length-map ps (seen K m) in
+      let b = length-map qs (seen K n) in
+      let c = length-append (visits K m ps) (visits K n qs) in
+      let sound = sound_append K (visits K m ps) (visits K n qs) (lawful_sound K m lm ps (omega arith)) (lawful_sound K n ln qs (omega arith)) (omega arith) in
+      least_by K both (take (length both) new) new x sound (found sound feasible (omega arith)) (minutes_take both new) billed
 
 -- the joined stops of two routes are as the engine asks
 module _ {E : Type 0} (K : Algebra E) (m n : Meaning E) (ss ts : List Stop) (i leg j : ℕ) (a : Kept K m ss) (b : Kept K n ts) where

@@ -6,6 +6,7 @@ use Rattle.route.specs.declared.stop.Splice.{Splice}
 use Rattle.route.specs.declared.stop.Splice.TheVariants.{Insert, Remove, Change}
 use Rattle.route.specs.Plain.{Plain}
 use Rattle.route.specs.Judged.{outside, objection}
+use Rattle.route.specs.Joins.{objection_to_join}
 use Rattle.route.specs.Steps.{HasPlace}
 
 pub passed : (b : Bool) (n : ℕ) (o : Option ℕ) → cond b (Some n) o ≡ None → (b ≡ false) × (o ≡ None)
@@ -27,3 +28,10 @@ has_place m ps (Insert p k a b) e =
     (w.0, w.1, false-leb 64 (length ps) (sym (passed (leb 64 (length ps)) 2 _ h.1).0))
 has_place m ps (Remove p l) e = within p (length ps) (passed _ 1 _ e).0
 has_place m ps (Change p k) e = within p (length ps) (passed _ 1 _ e).0
+
+-- a join that nothing speaks against has its places
+pub join_free : (front i leg back j : ℕ) → objection_to_join front i leg back j ≡ None → (i ≤ front) × (1 ≤ j) × (j ≤ back + 1)
+join_free front i leg back j e =
+    let h = both_false (ltb front i) (outside j (back + 1)) (passed _ 1 _ e).0 in
+    let w = within j (back + 1) (sym h.1) in
+    (false-ltb front i h.0, w.0, w.1)

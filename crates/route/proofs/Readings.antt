@@ -31,18 +31,22 @@ least_by K vs ms old x sound right same billed =
     let best = subst (Best K vs) same (marks_best K vs ms sound.bends right) in
     record { minutes = minutes vs old; best = best; cost = sym (billed sound best.serves) }
 
+-- the minutes that right marks give are those of the best timetable
+pub marked_best : {E : Type 0} (K : Algebra E) (m : Meaning E) (ss : List Stop) → Lawful K m → length ss ≤ 64 → Marked K m ss → Best K (line K m ss) (timed K m ss)
+marked_best K m ss law few right =
+    let n = length-map ss plain in
+    marks_best K (line K m ss) (marks ss) (lawful_sound K m law (plains ss) (omega arith)).bends right
+
 -- the minutes that a route tells are those of its best timetable
 best_kept : {E : Type 0} (K : Algebra E) (m : Meaning E) (ss : List Stop) → Kept K m ss → Best K (line K m ss) (timed K m ss)
-best_kept K m ss k =
-    let n = length-map ss plain in
-    marks_best K (line K m ss) (marks ss) (lawful_sound K m k.lawful (plains ss) (omega (arith, n, k.few))).bends k.marked
+best_kept K m ss k = marked_best K m ss k.lawful k.few k.marked
 
 -- the same of a route as it is seen
 pub kept_best : {X E : Type 0} (K : Algebra E) (M : X → Meaning E) (x : X) (ss : List Stop) (v : Over X Stop) → Kept K (M x) ss → record { source = x; stops = ss } ≡ v → Best K (line K (M v.source) v.stops) (timed K (M v.source) v.stops)
 kept_best K M x ss v k e = subst (λ v. Best K (line K (M v.source) v.stops) (timed K (M v.source) v.stops)) e (best_kept K (M x) ss k)
 
 module _ {E : Type 0} (K : Algebra E) (m : Meaning E) (ss : List Stop) (old : List ℕ) (loaded : take (length ss) old ≡ marks ss) where
-  loaded_minutes : minutes (line K m ss) old ≡ timed K m ss
+  pub loaded_minutes : minutes (line K m ss) old ≡ timed K m ss
   loaded_minutes =
       let n : length (line K m ss) ≡ length ss = length-map (plains ss) (seen K m) ∙ length-map ss plain in
       sym (minutes_take (line K m ss) old) ∙ ap (λ (k : ℕ). minutes (line K m ss) (take k old)) n ∙ ap (minutes (line K m ss)) loaded

@@ -89,6 +89,10 @@ module _ {X E : Type 0} (K : Algebra E) (M : X → Meaning E) (x : X) where
       subst (λ (l : List Splice). Runs K (M x) (plains ss) l ts (plains vs)) (sym f)
       (subst (λ (l : List Answer). Runs K (M x) (plains ss) (done ++ s ∷ []) l (plains vs)) (sym g) (runs_push K (M x) (plains ss) (plains us) (plains vs) done rs s r a j.judged))
 
+  -- right marks stay right
+  pub marked_more : (y : X) (us vs : List Stop) (s : Splice) (r : Answer) → y ≡ x → Spliced K (M y) us s r vs → Marked K (M x) us → Marked K (M x) vs
+  marked_more y us vs s r e b = (subst (λ (z : X). Spliced K (M z) us s r vs) e b).marked
+
   -- the whole of one route
   pub ran : (y : X) (us : List Stop) (ss : List Splice) (rs : List Answer) (n : ℕ) (fs : List Facts) (c : E) → y ≡ x → Runs K (M x) [] ss rs (plains us) → Marked K (M x) us → Told K (M x) us fs → n ≡ length (plains us) → Best K (line K (M x) us) (timed K (M x) us) → Least K (line K (M x) us) c → Ran K M x ss y us rs n fs c
   ran y us ss rs n fs c e runs right t k best least =

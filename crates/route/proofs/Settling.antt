@@ -102,3 +102,7 @@ module _ {E : Type 0} (K : Algebra E) (m : Meaning E) where
   kept_on ss ts s law few k x =
       let ok = judged_ok (plains ss) (plains ts) s (Ok tt) x.judged in
       record { few = few; lawful = law; marked = x.marked k.marked; legs = subst Short (sym ok.2) (short_spliced m (plains ss) s ok.0 k.legs) }
+
+  -- a refused splice
+  pub stayed : (ss : List Stop) (s : Splice) (r : Answer) → Judged K m (plains ss) s r (plains ss) → Spliced K m ss s r ss
+  stayed ss s r j = record { judged = j; marked = λ right. right; front = refl; stays = λ e. refl }

@@ -1,5 +1,5 @@
 -- A draft, place by place, and what its stops are to the timing.
-use Rattle.std.proofs.Common.{◌≡◌, ℕ, zero, suc, ◌<◌, Bool, true, false, cond, ◌&&◌, leb, List, [], ◌∷◌, map, length, get_or, Some, None, Option, sym, refl, ap, ◌∙◌, arith}
+use Rattle.std.proofs.Common.{◌≡◌, ℕ, zero, suc, ◌+◌, ◌<◌, Bool, true, false, cond, ◌&&◌, leb, List, [], ◌∷◌, ◌++◌, map, length, get_or, Some, None, Option, sym, refl, ap, ◌∙◌, arith}
 use borrow.Author.Tests.{lt-leb}
 use Rattle.std.specs.Prelude.{MatchOption}
 use Rattle.std.specs.Option.{option_map}
@@ -12,7 +12,17 @@ use Rattle.route.specs.Plain.{Plain, visit, visits}
 use Rattle.route.specs.Table.{plain, plains}
 use Rattle.route.specs.Drafts.{behind, seen_at}
 
-nth_map : {A B : Type 0} (f : A → B) (xs : List A) (i : ℕ) (d : A) → i < length xs → slice_get (map f xs) i ≡ Some (f (get_or xs i d))
+pub nth_left : {A : Type 0} (xs ys : List A) (i : ℕ) → i < length xs → slice_get (xs ++ ys) i ≡ slice_get xs i
+nth_left [] ys i h = absurd (omega arith)
+nth_left (x ∷ xs) ys zero h = refl
+nth_left (x ∷ xs) ys (suc i) h = nth_left xs ys i (omega arith)
+
+pub nth_right : {A : Type 0} (xs ys : List A) (i j : ℕ) → i ≡ length xs + j → slice_get (xs ++ ys) i ≡ slice_get ys j
+nth_right [] ys i j e = let z : i ≡ j = omega arith in ap (slice_get ys) z
+nth_right (x ∷ xs) ys zero j e = absurd (omega arith)
+nth_right (x ∷ xs) ys (suc i) j e = nth_right xs ys i j (omega arith)
+
+pub nth_map : {A B : Type 0} (f : A → B) (xs : List A) (i : ℕ) (d : A) → i < length xs → slice_get (map f xs) i ≡ Some (f (get_or xs i d))
 nth_map f [] i d h = absurd (omega arith)
 nth_map f (x ∷ xs) zero d h = refl
 nth_map f (x ∷ xs) (suc i) d h = nth_map f xs i d (omega arith)
@@ -31,11 +41,11 @@ and_false true = refl
 and_false false = refl
 
 module _ {E : Type 0} (K : Algebra E) where
-  leg_visit : (o : Option (Curve E)) (l : ℕ) → (visit K o l).leg ≡ l
+  pub leg_visit : (o : Option (Curve E)) (l : ℕ) → (visit K o l).leg ≡ l
   leg_visit None l = refl
   leg_visit (Some c) l = refl
 
-  span_visit : (o : Option (Curve E)) (l : ℕ) → span (span_of o) ≡ ((visit K o l).first, (visit K o l).last)
+  pub span_visit : (o : Option (Curve E)) (l : ℕ) → span (span_of o) ≡ ((visit K o l).first, (visit K o l).last)
   span_visit None l = refl
   span_visit (Some c) l = refl
 
@@ -46,7 +56,7 @@ module _ {E : Type 0} (K : Algebra E) where
   never : (v : ℕ → E) (l t : ℕ) → None ≡ asked (record { first = 1; last = 0; leg = l; price = v }) t
   never v l t = ap (λ (b : Bool). cond b (Some (v t)) None) (sym (apart t))
 
-  price_visit : (o : Option (Curve E)) (l t : ℕ) → price_of o t ≡ asked (visit K o l) t
+  pub price_visit : (o : Option (Curve E)) (l t : ℕ) → price_of o t ≡ asked (visit K o l) t
   price_visit None l t = never (λ _. K.nought) l t
   price_visit (Some c) l t = refl
 
@@ -55,13 +65,13 @@ module _ {E : Type 0} (K : Algebra E) (m : Meaning E) (ps : List Plain) (i : ℕ
   abbrev here : Visit E
   here = at K (visits K m ps) i
 
-  at_visits : (qs : List Plain) (k : ℕ) → at K (visits K m qs) k ≡ seen_at K m (slice_get qs k)
+  pub at_visits : (qs : List Plain) (k : ℕ) → at K (visits K m qs) k ≡ seen_at K m (slice_get qs k)
   at_visits [] k = refl
   at_visits (q ∷ qs) zero = refl
   at_visits (q ∷ qs) (suc k) = at_visits qs k
 
   -- the stop that the place holds
-  at_place : (o : Option Plain) → o ≡ slice_get ps i → seen_at K m o ≡ here
+  pub at_place : (o : Option Plain) → o ≡ slice_get ps i → seen_at K m o ≡ here
   at_place o e = sym (at_visits ps i ∙ ap (seen_at K m) (sym e))
 
   leg_seen : (o : Option Stop) (r : ℕ) → MatchOption o (r ≡ 0) (λ s. r ≡ s.leg) → r ≡ (seen_at K m (option_map plain o)).leg

@@ -93,7 +93,9 @@ impl DueBook {
     fn open_row(&self, curve: u8) -> Option<DueRow>
         ensures { result ≡ open_entry row_lawful self.now.rows.items curve }
     {
-        entry(&self.rows, curve).filter(|row| row.lawful())
+        // Kept: no `filter`, by which the search through a window takes a branch more at each minute.
+        let row = entry(&self.rows, curve)?;
+        row.lawful().then_some(row)
     }
 
     // 2^21: a lawful row costs at most 1000 a minute, over at most 1440 minutes.

@@ -7,7 +7,7 @@ use std::io::Write;
 use strip_report::text::strip_text;
 
 fn main(rt: HostRuntime) -> io::Result<()> {
-    let strip = read_whole(rt.alloc(), rt.stdin())?;
+    let strip = read_whole(rt.alloc(), &mut rt.stdin())?;
     let text = strip_text(rt.alloc(), strip.as_slice())?;
     rt.stdout().write_all(text.as_slice())
 }

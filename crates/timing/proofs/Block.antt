@@ -1,9 +1,12 @@
 -- Comparing the minutes u and u + 1 of the last stop: only the stops whose minutes move count. Every list here has the last stop first. Assumes nothing.
-use Rattle.std.proofs.Common.{◌≡◌, ℕ, ◌+◌, ◌-◌, ◌<◌, ◌≤◌, min, Bool, true, false, cond, leb, ◌↔◌, List, [], ◌∷◌, sym, refl, ap, ◌∙◌, subst, subst₂, arith}
+use Rattle.std.proofs.Common.{◌≡◌, ℕ, ◌+◌, ◌-◌, ◌<◌, ◌≤◌, min, Bool, true, false, cond, leb, ◌⊎◌, ◌↔◌, List, [], ◌∷◌, sym, refl, ap, ◌∙◌, subst, subst₂, arith}
 use Rattle.std.proofs.lemmas.Bool.{leb-true, leb-false}
-use Rattle.cost.specs.Algebra.{Algebra, Most}
+use Rattle.cost.specs.Algebra.{Algebra, Less, Most}
 use Rattle.timing.specs.Visits.{Visit}
+use Rattle.timing.specs.Convex.{Bends}
 use Rattle.timing.proofs.Costs.{cancel, plus_most}
+use Rattle.timing.proofs.Curves.{lowest_local}
+use Rattle.timing.proofs.Back.{ending_convex}
 use Rattle.timing.specs.Back.{reach, cost, ending, Marked, Cheaper}
 use Rattle.timing.specs.Moving.{walk}
 
@@ -71,6 +74,11 @@ module _ {E : Type 0} (K : Algebra E) where
       let e : t - v.leg + 1 ≡ t + 1 - v.leg = omega arith in
       let P : ℕ → Type 0 = λ s. Most K (ending K v vs ms t) (plus (v.price (t + 1)) (cost K vs ms s)) in
       (subst P e, subst P (sym e))
+
+  -- the mark, found by two comparisons
+  pub mark_found : (v : Visit E) (vs : List (Visit E)) (ms : List ℕ) (m : ℕ) → Bends K (v ∷ vs) → Marked K vs ms → reach (v ∷ vs) ≤ m → m ≤ v.last →
+      (m ≡ reach (v ∷ vs)) ⊎ Less K (ending K v vs ms m) (ending K v vs ms (m - 1)) → (m ≡ v.last) ⊎ Most K (ending K v vs ms m) (ending K v vs ms (m + 1)) → Marked K (v ∷ vs) (m ∷ ms)
+  mark_found v vs ms m p k h j fell stop = (lowest_local K (ending K v vs ms) (reach (v ∷ vs)) v.last (ending_convex K v vs ms p k) m h j fell stop, k)
 
   pub block_test : (v : Visit E) (vs : List (Visit E)) (ms : List ℕ) (t : ℕ) → Marked K vs ms → reach (v ∷ vs) ≤ t →
       Most K (ending K v vs ms t) (ending K v vs ms (t + 1)) ↔ Most K (walk K vs ms (t - v.leg) (v.price t) (v.price (t + 1))).0 (walk K vs ms (t - v.leg) (v.price t) (v.price (t + 1))).1

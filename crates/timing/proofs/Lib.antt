@@ -14,5 +14,6 @@ pub mod Timings
 pub mod Marking
 pub mod Blocks
 pub mod Refreshing
+pub mod Asking
 pub mod Sounds
 pub mod Stated

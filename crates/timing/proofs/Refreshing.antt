@@ -11,12 +11,12 @@ use Rattle.timing.specs.Ready.{Ready}
 use Rattle.timing.proofs.Firsts.{feasible_take}
 use Rattle.timing.proofs.Neighbours.{mark_front}
 
-module _ {E : Type 0} (K : Algebra E) (vs : List (Visit E)) (ms : List ℕ) (i : ℕ) (sound : Sound K vs) (feasible : Feasible vs) (more : i < length vs) (room : i < length ms) (marks : Marks K (take i vs) (take i ms)) where
-  front_length : length (take i ms) ≡ i
+module _ {E : Type 0} (K : Algebra E) (vs : List (Visit E)) (ms : List ℕ) (i : ℕ) (more : i < length vs) (room : i < length ms) (marks : Marks K (take i vs) (take i ms)) where
+  pub front_length : length (take i ms) ≡ i
   front_length = length-take-le i ms (omega arith)
 
-  front_ready : Ready K vs (take i ms)
-  front_ready =
+  pub front_ready : Sound K vs → Feasible vs → Ready K vs (take i ms)
+  front_ready sound feasible =
       let n = front_length in
       record {
         sound = sound;
@@ -25,13 +25,9 @@ module _ {E : Type 0} (K : Algebra E) (vs : List (Visit E)) (ms : List ℕ) (i :
         feasible = feasible_take (suc (length (take i ms))) vs feasible;
       }
 
-  -- m is found as the mark of the next stop, which can be reached at s
-  pub marks_more : (m s : ℕ) → s ≡ reached vs (i + 1) → (Ready K vs (take i ms) → s ≡ reached vs (length (take i ms) + 1) → Mark K vs (length (take i ms)) m) → Marks K (take (i + 1) vs) (take (i + 1) (set ms i m))
-  marks_more m s e found = record { many = length-take (i + 1) (set ms i m) ∙ omega (arith, length-set ms i m, length-take (i + 1) vs); each = each }
+  pub marks_more : (m : ℕ) → Mark K vs i m → Marks K (take (i + 1) vs) (take (i + 1) (set ms i m))
+  marks_more m mark = record { many = length-take (i + 1) (set ms i m) ∙ omega (arith, length-set ms i m, length-take (i + 1) vs); each = each }
     where
-      mark : Mark K vs i m
-      mark = subst (λ n. Mark K vs n m) front_length (found front_ready (subst (λ n. s ≡ reached vs (n + 1)) (sym front_length) e))
-
       each : (k : ℕ) → k < length (take (i + 1) vs) → Mark K (take (i + 1) vs) k (get_or (take (i + 1) (set ms i m)) k 0)
       each k h = elim (dec_le i k) [
         | yes p ↦
@@ -45,6 +41,11 @@ module _ {E : Type 0} (K : Algebra E) (vs : List (Visit E)) (ms : List ℕ) (i :
             let there : get_or (take (i + 1) (set ms i m)) k 0 ≡ get_or (take i ms) k 0 = get_or-take (i + 1) (set ms i m) k 0 (omega arith) ∙ get_or-set_other ms i k m 0 apart ∙ sym (get_or-take i ms k 0 (omega arith)) in
             subst (Mark K (take (i + 1) vs) k) (sym there) (mark_front K (take i vs) (take (i + 1) vs) k (get_or (take i ms) k 0) (take-take (suc k) i vs (omega arith) ∙ sym (take-take (suc k) (i + 1) vs (omega arith))) (marks.each k few))
       ]
+
+  -- m is found as the mark of the next stop, which can be reached at s
+  pub marks_found : Sound K vs → Feasible vs → (m s : ℕ) → s ≡ reached vs (i + 1) → (Ready K vs (take i ms) → s ≡ reached vs (length (take i ms) + 1) → Mark K vs (length (take i ms)) m) → Marks K (take (i + 1) vs) (take (i + 1) (set ms i m))
+  marks_found sound feasible m s e found =
+      marks_more m (subst (λ n. Mark K vs n m) front_length (found (front_ready sound feasible) (subst (λ n. s ≡ reached vs (n + 1)) (sym front_length) e)))
 
 pub marks_all : {E : Type 0} (K : Algebra E) (vs : List (Visit E)) (ms : List ℕ) (i : ℕ) → i ≡ length vs → Marks K (take i vs) (take i ms) → Marks K vs (take (length vs) ms)
 marks_all K vs ms i e marks =

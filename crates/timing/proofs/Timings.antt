@@ -57,7 +57,7 @@ module _ {E : Type 0} (K : Algebra E) where
   bill_step p (v ∷ vs) (t ∷ ts) zero f h = refl
   bill_step p (v ∷ vs) (t ∷ ts) (suc j) f h = bill_step t vs ts j f.3 (omega arith)
 
-  small_at : (vs : List (Visit E)) (j t : ℕ) → Small K vs → (at K vs j).first ≤ t → t ≤ (at K vs j).last → K.size ((at K vs j).price t) ≤ 2 ^ 40
+  pub small_at : (vs : List (Visit E)) (j t : ℕ) → Small K vs → (at K vs j).first ≤ t → t ≤ (at K vs j).last → K.size ((at K vs j).price t) ≤ 2 ^ 40
   small_at [] j t s h k = absurd (omega arith)
   small_at (v ∷ vs) zero t s h k = s.0 t h k
   small_at (v ∷ vs) (suc j) t s h k = small_at vs j t s.1 h k
@@ -76,6 +76,12 @@ module _ {E : Type 0} (K : Algebra E) where
   rest_size p [] ts (suc j) s f = omega (arith, K.size_nought)
   rest_size p (v ∷ vs) [] (suc j) s f = absurd f
   rest_size p (v ∷ vs) (t ∷ ts) (suc j) s f = omega (arith, rest_size t vs ts j s.1 f.3)
+
+  pub bill_past : (vs : List (Visit E)) (ts : List ℕ) (j : ℕ) → length vs ≤ j → bill K (drop j vs) ts ≡ K.nought
+  bill_past [] ts zero h = refl
+  bill_past [] ts (suc j) h = refl
+  bill_past (v ∷ vs) ts zero h = absurd (omega arith)
+  bill_past (v ∷ vs) ts (suc j) h = bill_past vs ts j (omega arith)
 
   module _ (vs : List (Visit E)) (ms : List ℕ) (s : Served K vs ms) where
     served_length : length vs ≤ length ms
