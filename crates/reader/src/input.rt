@@ -49,7 +49,16 @@ fn read_once<R: Read>(input: &mut R, buffer: &mut [u8]) -> io::Result<usize>
     Err(ErrorKind::Interrupted.into())
 }
 
-// Fills the buffer as `read_strip` does, with the same promises.
+// The same into a buffer that has room: of a read into none an input may make an error, or wait.
+fn read_into_room<R: Read>(input: &mut R, buffer: &mut [u8]) -> io::Result<usize>
+    requires room { 0 < length buffer.old }
+    ensures bound { ReadsAtMost result buffer.new }
+    ensures bytes { ReadConsumes (R.remaining input.old) (R.remaining input.new) result buffer.new }
+{
+    read_once(input, buffer)
+}
+
+// Fills the buffer as `read_strip` does, with the same promises, and reads no more once it is full.
 // Kept: beside it, since `read_strip` hands an interruption to its caller, and programs are to read on.
 #[tactic(auto, using(crate::proofs::Filling::filled_more))]
 fn fill<R: Read>(input: &mut R, buffer: &mut [u8]) -> io::Result<usize>
@@ -60,7 +69,10 @@ fn fill<R: Read>(input: &mut R, buffer: &mut [u8]) -> io::Result<usize>
 {
     let mut got = 0;
     for _ in 0..buffer.len() {
-        let more = read_once(input, &mut buffer[got..])?;
+        if got == buffer.len() {
+            break;
+        }
+        let more = read_into_room(input, &mut buffer[got..])?;
         if more == 0 {
             break;
         }

@@ -7,6 +7,8 @@ use crate::strip::Strip;
 use route::stop::{Facts, Refusal};
 use route::table::Route;
 use source::due::{DueBook, DueRow};
+use std::io;
+use std::io::{ErrorKind, Read};
 use std::test::Fail;
 
 fn row(first: u16, last: u16, due: u16, early: u16, late: u16) -> DueRow {
@@ -116,6 +118,33 @@ fn inputs_are_read_whole(rt: HostRuntime) -> Result<(), Fail> {
     let strip = read_whole(rt.alloc(), &mut long)?;
     assert_eq!(rt; strip.len(), 4097);
     assert_eq!(rt; long.len(), 903);
+    Ok(())
+}
+
+// An input that refuses a read into no room.
+#[derive(Drop)]
+struct Strict {
+    left: usize,
+}
+
+impl Read for Strict {
+    fn read(&mut self, buf: &mut [u8]) -> io::Result<usize> {
+        if buf.is_empty() {
+            return Err(ErrorKind::InvalidInput.into());
+        }
+        let count = buf.len().min(self.left).min(700);
+        self.left -= count;
+        Ok(count)
+    }
+}
+
+#[test]
+fn no_read_once_full(rt: HostRuntime) -> Result<(), Fail> {
+    let mut full = Strict { left: 4097 };
+    assert_eq!(rt; read_whole(rt.alloc(), &mut full)?.len(), 4097);
+    let mut long = Strict { left: 5000 };
+    assert_eq!(rt; read_whole(rt.alloc(), &mut long)?.len(), 4097);
+    assert_eq!(rt; long.left, 903);
     Ok(())
 }
 
